@@ -1,0 +1,2 @@
+mod Spans
+pub mod TableLaws

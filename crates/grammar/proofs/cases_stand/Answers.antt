@@ -1,0 +1,7 @@
+use mathlib.Core.Path.{refl}
+use Rattle.grammar.specs.Reading.{read-of}
+use Rattle.grammar.proofs.cases_stand.Needs as need
+
+pub returns : need.returns
+unfolding read-of
+returns c = refl

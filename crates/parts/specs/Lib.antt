@@ -1,0 +1,4 @@
+pub mod Codes
+pub mod Marks
+pub mod Numbers
+pub mod Rows

@@ -1,0 +1,10 @@
+pub mod Runs
+pub mod Digits
+pub mod RuleSteps
+pub mod BookSteps
+pub mod HeadSteps
+pub mod Fronts
+pub mod Stores
+pub mod Accepts
+pub mod FillSteps
+pub mod Replied

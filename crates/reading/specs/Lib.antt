@@ -1,0 +1,5 @@
+pub mod Spans
+pub mod Checks
+pub mod Heads
+pub mod Fills
+pub mod Replies
