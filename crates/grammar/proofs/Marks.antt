@@ -36,7 +36,7 @@ pub part-from : (z : ℤ) → mark-from z .part ≡ natAbs z
 part-from (pos p) = refl
 part-from (negsuc p) = refl
 
-names-append : (a b : Rule) (p : ℕ) → names (a ++ b) p ≡ (names a p || names b p)
+pub names-append : (a b : Rule) (p : ℕ) → names (a ++ b) p ≡ (names a p || names b p)
 names-append [] b p = refl
 names-append (m ∷ a) b p = let e = names-append a b p in grind arith
 

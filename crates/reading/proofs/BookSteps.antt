@@ -15,19 +15,15 @@ use Rattle.std.specs.declared.result.Result.the-variants.{Ok, Err}
 use Rattle.parts.specs.declared.refusals.Fault.{Fault}
 use Rattle.parts.specs.declared.refusals.Refusal.the-variants.{RuleCount}
 use Rattle.book.specs.Meaning.{Rule}
-use Rattle.grammar.specs.declared.Place.{Place}
 use Rattle.grammar.specs.declared.Room.{Room}
 use Rattle.grammar.specs.Pieces.{Piece, lines, fields, counted}
 use Rattle.grammar.specs.Reading.{fault, rule-of, after, rules-of}
+use Rattle.grammar.proofs.RuleLines.{place-of, rules-skip, rules-rule}
 use Rattle.reading.specs.Checks.{count-of, passed}
 use Rattle.reading.specs.Spans.{has, piece, Spans}
 use Rattle.reading.specs.declared.pieces.Class.the-variants.{Inline}
 use Rattle.reading.specs.declared.pieces.Span.{Span}
 use Rattle.reading.proofs.Runs.{next-line}
-
--- where the next rule's line stands
-abbrev pub place-of : ℕ → ℕ → Piece → Place
-place-of done used l = record { rule = done + 1; used = used; from = l .at; to = l .at + length (l .bytes) }
 
 module _ (room : Room) (end m done used : ℕ) (l : Piece) (ls : List Piece) where
   abbrev by-fields : List Piece → Result (List Rule) Fault
@@ -43,10 +39,6 @@ module _ (room : Room) (end m done used : ℕ) (l : Piece) (ls : List Piece) whe
             (Err (fault RuleCount (l .at + f .at) (done + 1)))
       ]
 
-  -- a line without a field that counts
-  pub skip-line : counted (l .bytes) ≡ [] → rules-of room end m done used (l ∷ ls) ≡ rules-of room end m done used ls
-  skip-line e = ap by-fields e
-
   module _ (f : Piece) (fs : List Piece) (e : counted (l .bytes) ≡ f ∷ fs) where
     -- a line after the last rule
     pub line-over : m ≤ done → rules-of room end m done used (l ∷ ls) ≡ Err (fault RuleCount (l .at + f .at) (done + 1))
@@ -55,9 +47,6 @@ module _ (room : Room) (end m done used : ℕ) (l : Piece) (ls : List Piece) whe
     -- a line for the next rule
     pub line-fault : done < m → (x : Fault) → rule-of room (place-of done used l) [] (f ∷ fs) ≡ Err x → rules-of room end m done used (l ∷ ls) ≡ Err x
     line-fault h x is = ap by-fields e ∙ rw (lt-ltb done m h) (rw is refl)
-
-    pub line-rule : done < m → (r : Rule) → rule-of room (place-of done used l) [] (f ∷ fs) ≡ Ok r → rules-of room end m done used (l ∷ ls) ≡ after r (rules-of room end m (done + 1) (used + length r) ls)
-    line-rule h r is = ap by-fields e ∙ rw (lt-ltb done m h) (rw is refl)
 
 pub passed-after : (r : Rule) (x : Result (List Rule) Fault) → passed (after r x) ≡ passed x
 passed-after r (Ok rs) = refl
@@ -97,7 +86,7 @@ module _ (room : Room) (text : List ℕ) (m done used at end : ℕ) (inside : at
   begins = ap (rules-of room (length text) m done used) (next-line text at end inside is-end)
 
   pub on-skip : counted line ≡ [] → from-here ≡ from-next done used
-  on-skip e = begins ∙ skip-line room (length text) m done used (piece text at end) (lines (end + 1) (drop (end + 1) text)) e
+  on-skip e = begins ∙ rules-skip room (length text) m done used (piece text at end) (lines (end + 1) (drop (end + 1) text)) e
 
   module _ (s : Span) (e : (counted line ≡ fields 0 line) × Spans line 0 s) where
     pub on-over : m ≤ done → from-here ≡ Err (fault RuleCount (at + s .start) (done + 1))
@@ -110,7 +99,7 @@ module _ (room : Room) (text : List ℕ) (m done used at end : ℕ) (inside : at
     on-fault h d is = begins ∙ line-fault room (length text) m done used (piece text at end) (lines (end + 1) (drop (end + 1) text)) _ _ (e .0 ∙ e .1 .first) h d (same-rule ∙ counted-fault this-rule d is)
 
     pub on-rule : done < m → (r : Rule) → this-rule ≡ Ok r → from-here ≡ after r (from-next (done + 1) (used + length r))
-    on-rule h r is = begins ∙ line-rule room (length text) m done used (piece text at end) (lines (end + 1) (drop (end + 1) text)) _ _ (e .0 ∙ e .1 .first) h r (same-rule ∙ is)
+    on-rule h r is = begins ∙ rules-rule room (length text) m done used (piece text at end) (lines (end + 1) (drop (end + 1) text)) r h (ap (rule-of room (place-of done used (piece text at end)) []) (e .0 ∙ e .1 .first) ∙ same-rule ∙ is)
 
 -- the text is over, with a rule missing or with all of them
 module _ (room : Room) (text : List ℕ) (m done used at : ℕ) (over : length text ≤ at) where

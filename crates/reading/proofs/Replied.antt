@@ -72,3 +72,8 @@ module _ (marks₀ : List ℤ) (ends₀ : List ℕ) (text : List ℕ) where
 -- as many rules are read as the head tells
 pub all-read : (room : Room) (end m p : ℕ) (text : List ℕ) (rs : List Rule) → rules-of room end m 0 0 (lines p text) ≡ Ok rs → length rs ≡ m
 all-read room end m p text rs e = omega (arith, rules-to room end m (lines p text) rs 0 0 (lines-inline _ _ (lines-of p text)) (omega arith) (omega arith) (omega arith) e .1 .all)
+
+-- a fault that is told is the text's
+pub fault-told : (x : Result Rules Fault) (f : Fault) → Err f ≡ told x → x ≡ Err f
+fault-told (Ok b) f e = absurd (refused f _ e)
+fault-told (Err g) f e = cc

@@ -3,3 +3,4 @@ pub mod Checks
 pub mod Heads
 pub mod Fills
 pub mod Replies
+pub mod Loads

@@ -15,6 +15,7 @@ use parts::refusals::Refusal;
 mod checking;
 mod filling;
 mod head;
+pub mod loading;
 mod numbers;
 mod pieces;
 mod seen;
