@@ -13,16 +13,10 @@ ghost use Rattle.book.specs.Laying.{Spanned, laid-sound};
 use crate::Book;
 use parts::Mark;
 use parts::Side;
+use parts::limits::MOST_PARTS;
+use parts::limits::MOST_TEXT_MARKS;
+use parts::limits::MOST_TEXT_RULES;
 use parts::refusals::Refusal;
-
-// The most parts of a book.
-const MOST_PARTS: usize = 120;
-
-// The most rules of a book that is laid over tables.
-const MOST_RULES: usize = 4000;
-
-// The most marks that its rules have together.
-const MOST_MARKS: usize = 16000;
 
 // The two tables of a book.
 #[derive(Drop)]
@@ -137,11 +131,11 @@ fn mark_from(number: i16) -> Mark
 fn can_lay(n: usize, rules: usize, marks: &[i16], ends: &[u16]) -> bool
     ensures { λ r. ⌜ r ≡ lays n rules (now (marks .entry)) (now (ends .entry)) ⌝ }
 {
-    if n == 0 || n > MOST_PARTS || rules > MOST_RULES || rules > ends.len() {
+    if n == 0 || n > MOST_PARTS || rules > MOST_TEXT_RULES || rules > ends.len() {
         return false;
     }
     let used = &ends[0..rules];
-    ends_rise(used, MOST_MARKS.min(marks.len())) && rules_sound(n, marks, used)
+    ends_rise(used, MOST_TEXT_MARKS.min(marks.len())) && rules_sound(n, marks, used)
 }
 
 // Whether no end falls below the one before, and none passes the limit.

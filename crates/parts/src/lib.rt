@@ -4,6 +4,7 @@ ghost use Prim.Native.Nat.{ℕ};
 ghost use Rattle.parts.specs.Codes.{code-of, side-of, is-row};
 ghost use Rattle.parts.specs.Marks.{other-side, opposite-of};
 
+pub mod limits;
 pub mod refusals;
 
 // Where a mark puts its part (the literal's sign).

@@ -20,6 +20,7 @@ use crate::pieces::run_end;
 use crate::seen::Seen;
 use grammar::Place;
 use grammar::Room;
+use parts::limits::MOST_TEXT_MARKS;
 use parts::refusals::Fault;
 use parts::refusals::Refusal;
 
@@ -51,7 +52,7 @@ fn is_full(room: Room, place: Place, count: usize, number: i32) -> bool
     if count == 0 && place.rule > room.ends {
         return true;
     }
-    number != 0 && place.used + count >= room.marks.min(16_000)
+    number != 0 && place.used + count >= room.marks.min(MOST_TEXT_MARKS)
 }
 
 // The number of a field that starts at `byte`, or the first fault that applies to it.

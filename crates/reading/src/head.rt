@@ -19,6 +19,8 @@ use crate::pieces::first_field;
 use crate::pieces::next_field;
 use crate::pieces::run_end;
 use grammar::Size;
+use parts::limits::MOST_PARTS;
+use parts::limits::MOST_TEXT_RULES;
 use parts::refusals::Fault;
 use parts::refusals::Refusal;
 
@@ -75,14 +77,14 @@ fn size_in_range(n: u32, m: u32, from: usize, at_n: usize, at_m: usize) -> Resul
     ensures value { λ r. ⌜ r ≡ sized from «at_n» «at_m» (Some n) (Some m) ⌝ }
     ensures range { λ r. ⌜ made r In-range ⌝ }
 {
-    if n == 0 || n > 120 {
+    if n == 0 || n as usize > MOST_PARTS {
         return Err(Fault {
             refusal: Refusal::SizeOutOfRange,
             byte: from + at_n,
             rule: 0,
         });
     }
-    if m > 4000 {
+    if m as usize > MOST_TEXT_RULES {
         return Err(Fault {
             refusal: Refusal::SizeOutOfRange,
             byte: from + at_m,

@@ -9,6 +9,7 @@ ghost use Rattle.reading.specs.Fills.{filled};
 ghost use Rattle.reading.specs.Replies.{told, rules-in, Lays-it};
 use grammar::Room;
 use grammar::Size;
+use parts::limits::MOST_TEXT_BYTES;
 use parts::refusals::Fault;
 use parts::refusals::Refusal;
 
@@ -33,10 +34,10 @@ pub fn read(text: &[u8], marks: &mut [i16], ends: &mut [u16]) -> Result<Size, Fa
     ensures format { λ _. ⌜ Accepts-the-format (length (now (marks .entry))) (length (now (ends .entry))) (now (text .entry)) ⌝ }
     ensures lays { λ r. ⌜ made r (Lays-it (read-of (length (now (marks .entry))) (length (now (ends .entry))) (now (text .entry))) (now (marks .exit)) (now (ends .exit))) ⌝ }
 {
-    if text.len() > 60_000 {
+    if text.len() > MOST_TEXT_BYTES {
         return Err(Fault {
             refusal: Refusal::TextTooLong,
-            byte: 60_000,
+            byte: MOST_TEXT_BYTES,
             rule: 0,
         });
     }

@@ -10,15 +10,12 @@ ghost use Rattle.reading.specs.declared.loading.Unloaded.the-variants.{Faulty,
 use crate::read;
 use book::text::Tables;
 use book::text::TextBook;
+use parts::limits::MOST_TEXT_MARKS;
+use parts::limits::MOST_TEXT_RULES;
 use parts::refusals::Fault;
 use parts::refusals::FaultDebug;
 use std::alloc::AllocError;
 use std::alloc::Global;
-
-// The most marks and rules that a text may have.
-const MOST_MARKS: usize = 16_000;
-
-const MOST_RULES: usize = 4000;
 
 // Why no book was loaded.
 #[derive(Clone, Copy, Debug)]
@@ -47,8 +44,8 @@ pub impl From<Fault> for Unloaded as UnloadedFromFault {
 pub fn load(heap: Global, text: &[u8]) -> Result<TextBook, Unloaded>
     ensures { λ r. ⌜ Cases r (λ b. read-of 16000 4000 (now (text .entry)) ≡ Ok (laid-rules (b .n) (b .rules) (vec-items (b .marks)) (vec-items (b .ends)))) (Refused (now (text .entry))) ⌝ }
 {
-    let mut marks = vec![in heap; 0i16; MOST_MARKS]?;
-    let mut ends = vec![in heap; 0u16; MOST_RULES]?;
+    let mut marks = vec![in heap; 0i16; MOST_TEXT_MARKS]?;
+    let mut ends = vec![in heap; 0u16; MOST_TEXT_RULES]?;
     let size = read(text, &mut marks, &mut ends)?;
     match TextBook::lay(size.n, size.m, Tables { marks, ends }) {
         Ok(book) => Ok(book),

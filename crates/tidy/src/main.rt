@@ -2,6 +2,7 @@
 use book::Book;
 use book::text::TextBook;
 use book::text::TextBookBook;
+use parts::limits::MOST_TEXT_BYTES;
 use parts::refusals::Fault;
 use reading::loading::Unloaded;
 use reading::loading::load;
@@ -10,9 +11,6 @@ use std::fs;
 use std::io::Write;
 use writing::count_marks;
 use writing::write;
-
-// The most bytes of a book's text.
-const MOST_BYTES: usize = 60_000;
 
 fn main(rt: LibcRuntime) -> Result<(), AnyError> {
     rt.report(tidy(&rt))
@@ -33,7 +31,7 @@ fn tidy(rt: &LibcRuntime) -> Result<(), AnyError> {
 
 // The book's size on a line, and then its text.
 fn print_book(rt: &LibcRuntime, book: &TextBook) -> Result<(), AnyError> {
-    let mut buffer = vec![in rt.alloc(); 0u8; MOST_BYTES]?;
+    let mut buffer = vec![in rt.alloc(); 0u8; MOST_TEXT_BYTES]?;
     let Ok(len) = write(book, &mut buffer) else {
         return Err("the book's text is too long to be written".into());
     };

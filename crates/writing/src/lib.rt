@@ -8,16 +8,12 @@ ghost use Rattle.grammar.specs.Writing.{written-of};
 ghost use Rattle.writing.specs.Over.{few, told, over};
 use book::Book;
 use page::Page;
+use parts::limits::MOST_TEXT_MARKS;
+use parts::limits::MOST_TEXT_RULES;
 use parts::refusals::Refusal;
 
 mod page;
 mod put;
-
-// The most rules of a text.
-const MOST_RULES: usize = 4000;
-
-// The most marks of a text.
-const MOST_MARKS: usize = 16_000;
 
 // Writes a book's text into the front of the buffer, and tells its length; a refusal leaves the buffer as it was.
 pub fn write<B: Book>(book: &B, buffer: &mut [u8]) -> Result<usize, Refusal>
@@ -25,7 +21,7 @@ pub fn write<B: Book>(book: &B, buffer: &mut [u8]) -> Result<usize, Refusal>
     ensures back { λ r. ⌜ made r (λ len. Reads-back (B·Book .meaning (now (book .entry))) (take len (now (buffer .exit)))) ⌝ }
     ensures buffer { λ _. ⌜ now (buffer .exit) ≡ over (written-of (length (now (buffer .entry))) (B·Book .meaning (now (book .entry)))) (now (buffer .entry)) ⌝ }
 {
-    if book.rules() > MOST_RULES {
+    if book.rules() > MOST_TEXT_RULES {
         return Err(Refusal::NotWritable);
     }
     let Some(_) = count_marks(book) else {
@@ -47,7 +43,7 @@ pub fn write<B: Book>(book: &B, buffer: &mut [u8]) -> Result<usize, Refusal>
 pub fn count_marks<B: Book>(book: &B) -> Option<usize>
     ensures { λ r. ⌜ r ≡ few (count-marks (B·Book .meaning (now (book .entry)) .rules)) ⌝ }
 {
-    let mut left = MOST_MARKS;
+    let mut left = MOST_TEXT_MARKS;
     for i in 0..book.rules() {
         let marks = book.marks(i + 1).unwrap_or(0);
         if marks > left {
@@ -55,5 +51,5 @@ pub fn count_marks<B: Book>(book: &B) -> Option<usize>
         }
         left -= marks;
     }
-    Some(MOST_MARKS - left)
+    Some(MOST_TEXT_MARKS - left)
 }

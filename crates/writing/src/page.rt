@@ -1,13 +1,11 @@
 // A page that a book's text is put on.
 ghost use Prim.Native.Nat.{_≤_};
-
-// The most bytes of a text.
-pub const MOST_BYTES: usize = 60_000;
+use parts::limits::MOST_TEXT_BYTES;
 
 // The bytes put so far, and whether one of them found no room.
 #[derive(Drop)]
 pub struct Page {
-    pub bytes: [u8; MOST_BYTES],
+    pub bytes: [u8; MOST_TEXT_BYTES],
     pub len: usize,
     pub full: bool,
     ghost within: { len ≤ 60000 },

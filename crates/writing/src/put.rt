@@ -6,11 +6,11 @@ ghost use Rattle.std.specs.Written.{decimal};
 ghost use Rattle.std.specs.declared.option.Option.the-variants.{Some};
 ghost use Rattle.grammar.specs.Writing.{mark-field, rule-line, head-line, text-of};
 ghost use Rattle.writing.specs.Put.{held, grown, rule-at};
-use crate::page::MOST_BYTES;
 use crate::page::Page;
 use book::Book;
 use parts::Mark;
 use parts::Side;
+use parts::limits::MOST_TEXT_BYTES;
 
 impl Page {
     // A page with nothing on it.
@@ -18,7 +18,7 @@ impl Page {
         ensures { λ r. ⌜ held r ≡ Some [] ⌝ }
     {
         Page {
-            bytes: [0; MOST_BYTES],
+            bytes: [0; MOST_TEXT_BYTES],
             len: 0,
             full: false,
         }
@@ -39,7 +39,7 @@ impl Page {
     fn put(&mut self, byte: u8)
         ensures { λ _. ⌜ held (now (self .exit)) ≡ grown (held (now (self .entry))) (byte ∷ []) ⌝ }
     {
-        if self.len == MOST_BYTES {
+        if self.len == MOST_TEXT_BYTES {
             self.full = true;
         } else {
             self.bytes[self.len] = byte;

@@ -4,4 +4,4 @@ use Rattle.grammar.proofs.cases_stand.Needs as need
 
 pub returns : need.returns
 unfolding read-of
-returns c = refl
+returns c = record { count = refl; cases = refl }

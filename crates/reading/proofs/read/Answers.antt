@@ -13,12 +13,12 @@ use Rattle.grammar.proofs.RuleLines.{rules-to, Given}
 use Rattle.reading.proofs.Replied.{rules-passed, rules-refused, too-long, by-lines, reply-is, marks-are, ends-are, lays-read, all-read}
 use Rattle.reading.proofs.read.Needs as need
 
-pub returns-then-text-gt60000 : need.returns-then-text-gt60000
-returns-then-text-gt60000 c =
+pub returns-then-text-gt-MOST-TEXT-BYTES : need.returns-then-text-gt-MOST-TEXT-BYTES
+returns-then-text-gt-MOST-TEXT-BYTES c =
     let M = c .args .marks .now in
     let E = c .args .ends .now in
     let T = c .args .text .now in
-    let e = too-long M E T (c .if-text-gt60000 .taken) in
+    let e = too-long M E T (c .if-text-gt-MOST-TEXT-BYTES .taken) in
     record { reply = reply-is M E T _ e; marks = marks-are M E T _ e; ends = ends-are M E T _ e; format = reading-is-the-format _ _ _; lays = tt }
 
 pub returns-in-Break-head : need.returns-in-Break-head
@@ -27,7 +27,7 @@ returns-in-Break-head c =
     let E = c .args .ends .now in
     let T = c .args .text .now in
     let p = err-from-errBy (c .from-residual .result) (c .from-residual .ensures .1) in
-    let e = by-lines M E T (c .if-text-gt60000 .left) ∙ c .in-Break-head .ensures tt .value (length M) (length E) in
+    let e = by-lines M E T (c .if-text-gt-MOST-TEXT-BYTES .left) ∙ c .in-Break-head .ensures tt .value (length M) (length E) in
     rw (p .1, p .2) (record { reply = reply-is M E T _ e; marks = marks-are M E T _ e; ends = ends-are M E T _ e; format = reading-is-the-format _ _ _; lays = tt })
 
 pub returns-in-Break-check-rules : need.returns-in-Break-check-rules
@@ -36,7 +36,7 @@ returns-in-Break-check-rules c =
     let E = c .args .ends .now in
     let T = c .args .text .now in
     let p = err-from-errBy (c .from-residual-in-Break-check-rules .result) (c .from-residual-in-Break-check-rules .ensures .1) in
-    let e = by-lines M E T (c .if-text-gt60000 .left) ∙ c .in-Continue-head .ensures tt .value (length M) (length E) ∙ ap (book-of (c .in-Continue-head .head .size .n)) (rules-refused _ _ (c .in-Break-check-rules .ensures tt)) in
+    let e = by-lines M E T (c .if-text-gt-MOST-TEXT-BYTES .left) ∙ c .in-Continue-head .ensures tt .value (length M) (length E) ∙ ap (book-of (c .in-Continue-head .head .size .n)) (rules-refused _ _ (c .in-Break-check-rules .ensures tt)) in
     rw (p .1, p .2) (record { reply = reply-is M E T _ e; marks = marks-are M E T _ e; ends = ends-are M E T _ e; format = reading-is-the-format _ _ _; lays = tt })
 
 pub returns : need.returns
@@ -46,7 +46,7 @@ returns c =
     let T = c .args .text .now in
     let size = c .in-Continue-head .head .size in
     let rs = rules-passed _ (c .in-Continue-check-rules .ensures tt) in
-    let e = by-lines M E T (c .if-text-gt60000 .left) ∙ c .in-Continue-head .ensures tt .value (length M) (length E) ∙ ap (book-of (size .n)) (rs .1) in
+    let e = by-lines M E T (c .if-text-gt-MOST-TEXT-BYTES .left) ∙ c .in-Continue-head .ensures tt .value (length M) (length E) ∙ ap (book-of (size .n)) (rs .1) in
     let next = c .in-Continue-head .head .next in
     let m = all-read (record { n = size .n; marks = length M; ends = length E }) (length T) (size .m) next (drop next T) (rs .0) (rs .1) in
     let ms = c .fill .ensures .marks (rs .0) (rs .1) in

@@ -8,8 +8,8 @@ use Rattle.grammar.proofs.Back.{writing-reads-back}
 use Rattle.writing.proofs.Written.{many-rules, many-marks, page-short, page-long, page-copied}
 use Rattle.writing.proofs.write.Needs as need
 
-pub returns-then-rules-gt-MOST-RULES : need.returns-then-rules-gt-MOST-RULES
-returns-then-rules-gt-MOST-RULES g c =
+pub returns-then-rules-gt-MOST-TEXT-RULES : need.returns-then-rules-gt-MOST-TEXT-RULES
+returns-then-rules-gt-MOST-TEXT-RULES g c =
     let e = many-rules (length (c .args .buffer .now)) (g .B·Book .meaning (c .args .book .now)) (omega arith) in
     search needs
 

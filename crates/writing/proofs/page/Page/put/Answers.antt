@@ -11,16 +11,16 @@ use Rattle.writing.specs.Put.{held}
 use Rattle.writing.proofs.Grown.{grown-past, grown-within}
 use Rattle.writing.proofs.page.Page.put.Needs as need
 
-pub returns-then-self-eq-MOST-BYTES : need.returns-then-self-eq-MOST-BYTES
+pub returns-then-self-eq-MOST-TEXT-BYTES : need.returns-then-self-eq-MOST-TEXT-BYTES
 unfolding held
-returns-then-self-eq-MOST-BYTES c =
+returns-then-self-eq-MOST-TEXT-BYTES c =
     let p = c .args .self .now in
     let l : length (p .bytes) ≡ 60000 = search needs in
     sym (grown-past (p .full) (take (p .len) (p .bytes)) (c .args .byte ∷ []) (simp (length-append, length-take) (omega arith)))
 
-pub returns-else-self-eq-MOST-BYTES : need.returns-else-self-eq-MOST-BYTES
+pub returns-else-self-eq-MOST-TEXT-BYTES : need.returns-else-self-eq-MOST-TEXT-BYTES
 unfolding held
-returns-else-self-eq-MOST-BYTES c =
+returns-else-self-eq-MOST-TEXT-BYTES c =
     let p = c .args .self .now in
     let l : length (p .bytes) ≡ 60000 = search needs in
     let w = p .within in
