@@ -5,12 +5,15 @@ ghost use lib.IntN.{ℤ, natAbs};
 ghost use Rattle.std.specs.Slices.{found};
 ghost use Rattle.grammar.specs.Numbers.{number as number-in, signed as signed-in};
 
+// The most digits of a number.
+const MOST_DIGITS: usize = 5;
+
 // The number that the bytes write: 0, or a digit 1 to 9 and up to four more digits.
 pub(crate) fn number(bytes: &[u8]) -> Option<u32>
     ensures value { λ r. ⌜ r ≡ number-in (now (bytes .entry)) ⌝ }
     ensures small { λ r. ⌜ found r (λ v. v < 100000) ⌝ }
 {
-    if bytes.len() == 0 || bytes.len() > 5 {
+    if bytes.len() == 0 || bytes.len() > MOST_DIGITS {
         return None;
     }
     if bytes[0] == b'0' {
