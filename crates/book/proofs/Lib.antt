@@ -1,2 +1,3 @@
 mod Spans
+pub mod Joins
 pub mod TableLaws

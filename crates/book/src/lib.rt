@@ -3,6 +3,7 @@ ghost use mathlib.Core.Path.{_≡_};
 ghost use lib.ListN.{length};
 ghost use Rattle.book.specs.Meaning.{Rules, Sound, marks-of, mark-of};
 
+pub mod joined;
 pub mod text;
 
 use parts::Mark;

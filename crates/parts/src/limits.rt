@@ -14,3 +14,9 @@ pub const MOST_TEXT_MARKS: usize = 16_000;
 
 // The most bytes of a book's text.
 pub const MOST_TEXT_BYTES: usize = 60_000;
+
+// The most parts of a bay.
+pub const MOST_WIDTH: usize = 20;
+
+// The most places of a shelf that is kept in a table.
+pub const MOST_PLACES: usize = 256;

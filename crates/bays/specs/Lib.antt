@@ -1,0 +1,4 @@
+pub mod Meaning
+pub mod Fit
+pub mod Spots
+pub mod Law

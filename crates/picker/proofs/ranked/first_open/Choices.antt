@@ -1,0 +1,9 @@
+use mathlib.Core.Path.{_≡_}
+use lib.ListN.{drop, length}
+use Rattle.std.specs.shelf.Lists.{All}
+use Rattle.picker.specs.Ranking.{first-open}
+use Rattle.picker.specs.RankedSound.{Within}
+use Rattle.picker.proofs.ranked.first_open.Given as given
+
+abbrev pub Inv-loop-mark : given.InvT-loop-mark
+Inv-loop-mark l = first-open (l .row) (drop (l .mark-index) (l .list)) ≡ first-open (l .row) (l .list)

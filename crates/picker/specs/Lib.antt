@@ -1,0 +1,4 @@
+pub mod Meaning
+pub mod Lowest
+pub mod Ranking
+pub mod RankedSound

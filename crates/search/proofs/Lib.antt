@@ -1,0 +1,14 @@
+pub mod Basics
+pub mod Tally
+pub mod Rows
+pub mod Invariant
+pub mod Settled
+pub mod Turn
+pub mod States
+pub mod Places
+pub mod Look
+pub mod Named
+pub mod Step
+pub mod Keeping
+pub mod Promises
+pub mod Leaving

@@ -1,0 +1,5 @@
+mod Rows
+mod Walks
+mod Blocks
+mod Marks
+mod Listings
