@@ -14,7 +14,8 @@ use Rattle.std.specs.declared.option.Option.the-variants.{Some, None}
 use Rattle.std.proofs.shelf.Counted.{length-map-counting, getD-map-counting}
 use Rattle.std.proofs.shelf.Elements.{all-append, all-map, all-getD}
 use Rattle.std.proofs.shelf.Maps.{nth-getD, nth-past}
-use Rattle.book.specs.Meaning.{at-place, marks-of}
+use Rattle.parts.specs.Lists.{at-place}
+use Rattle.book.specs.Meaning.{marks-of}
 use Rattle.book.proofs.Joins.{nth-before, nth-after}
 use Rattle.bays.specs.Meaning.{in-mark, out-mark, some-in, not-both, pairs, bay-rules, bays-rules, pair-count, bay-count}
 use Rattle.bays.specs.Fit.{length-pairs}

@@ -6,7 +6,7 @@ use Rattle.std.specs.Finite.{nth}
 use Rattle.std.specs.Options.{Cases}
 use Rattle.std.specs.declared.option.Option.{Option}
 use Rattle.std.specs.declared.option.Option.the-variants.{None}
-use Rattle.book.specs.Meaning.{at-place}
+use Rattle.parts.specs.Lists.{at-place}
 use Rattle.bays.specs.Meaning.{bay-rules, bays-rules, bay-count}
 use Rattle.bays.specs.declared.Spot.{Spot}
 

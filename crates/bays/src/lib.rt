@@ -10,7 +10,7 @@ ghost use Rattle.std.specs.Options.{mapped};
 ghost use Rattle.std.specs.Results.{Cases};
 ghost use Rattle.std.specs.declared.option.Option.the-variants.{Some, None};
 ghost use Rattle.parts.specs.declared.refusals.Refusal.the-variants.{NotABook};
-ghost use Rattle.book.specs.Meaning.{at-place};
+ghost use Rattle.parts.specs.Lists.{at-place};
 ghost use Rattle.bays.specs.Meaning.{some-in, not-both, pairs, total, bay-book, bay-count, rule-count, fit-bays};
 ghost use Rattle.bays.specs.Fit.{bay-sound};
 ghost use Rattle.bays.specs.Spots.{Spotted};

@@ -9,7 +9,8 @@ use Rattle.std.specs.Finite.{nth}
 use Rattle.std.specs.declared.option.Option.the-variants.{None}
 use Rattle.std.proofs.shelf.Lists.{append-nil}
 use Rattle.std.proofs.shelf.Tests.{cond-true, cond-false}
-use Rattle.book.specs.Meaning.{Rules, at-place}
+use Rattle.parts.specs.Lists.{at-place}
+use Rattle.book.specs.Meaning.{Rules}
 use Rattle.book.specs.Joining.{joinable, joined-rules}
 use Rattle.book.proofs.Spans.{place-past}
 

@@ -12,7 +12,8 @@ use Rattle.std.proofs.shelf.Lists.{at-drop-more, getD-read, getD-take, getD-dro
 use Rattle.std.proofs.shelf.Maps.{nth-getD, nth-past}
 use Rattle.std.proofs.shelf.Tests.{and-parts, leb-true}
 use Rattle.parts.specs.declared.Mark.{Mark}
-use Rattle.book.specs.Meaning.{Rule, at-place, then-at, marks-of, mark-of}
+use Rattle.parts.specs.Lists.{at-place, then-at}
+use Rattle.book.specs.Meaning.{Rule, marks-of, mark-of}
 use Rattle.book.specs.Tables.{mark-from, cut, rising}
 use Rattle.book.specs.Laying.{Laid, Spans, laid-from}
 use Rattle.book.specs.declared.text.TextBook.{TextBook}

@@ -11,7 +11,8 @@ use Rattle.std.specs.declared.option.Option.{Option}
 use Rattle.std.specs.declared.option.Option.the-variants.{Some, None}
 use Rattle.std.proofs.shelf.Tests.{and-parts, leb-true}
 use Rattle.parts.specs.declared.Mark.{Mark}
-use Rattle.book.specs.Meaning.{Rule, Sound, at-place, sound-rules}
+use Rattle.parts.specs.Lists.{at-place}
+use Rattle.book.specs.Meaning.{Rule, Sound, sound-rules}
 use Rattle.book.specs.Tables.{mark-from, cut, rising, lays, laid-rules}
 
 -- what `lays` tells, part by part

@@ -2,10 +2,10 @@
 use mathlib.Core.Path.{_≡_}
 use mathlib.Core.List.{List, [], _∷_}
 use mathlib.Core.Bool.{Bool, true, false, _&&_, _||_, not}
-use Prim.Native.Nat.{ℕ, zero, suc, _+_, _≤_}
+use Prim.Native.Nat.{ℕ, _+_, _≤_}
 use lib.ListN.{length}
 use lib.Dec.{eqb, leb}
-use Rattle.std.specs.Finite.{nth}
+use Rattle.parts.specs.Lists.{at-place, then-at}
 use Rattle.std.specs.Options.{mapped}
 use Rattle.std.specs.declared.option.Option.{Option}
 use Rattle.std.specs.declared.option.Option.the-variants.{Some, None}
@@ -18,15 +18,6 @@ Rule = List Mark
 pub record Rules : Type 0 where
   pub n : ℕ
   pub rules : List Rule
-
--- what stands at a place that counts from 1
-abbrev pub at-place : {X : Type 0} → List X → ℕ → Option X
-at-place xs zero = None
-at-place xs (suc i) = nth xs i
-
-abbrev pub then-at : {X Y : Type 0} → Option X → (X → Option Y) → Option Y
-then-at None f = None
-then-at (Some x) f = f x
 
 -- how many marks a rule has, and one of them by its place; nothing outside
 abbrev pub marks-of : List Rule → ℕ → Option ℕ

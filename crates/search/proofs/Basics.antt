@@ -13,7 +13,7 @@ use Rattle.parts.specs.Marks.{other-side, opposite-of}
 use Rattle.parts.specs.declared.Mark.{Mark}
 use Rattle.parts.specs.declared.Side.{Side}
 use Rattle.parts.specs.declared.Side.the-variants.{In, Out}
-use Rattle.book.specs.Meaning.{at-place}
+use Rattle.parts.specs.Lists.{at-place}
 use Rattle.search.specs.declared.Entry.{Entry}
 use Rattle.search.specs.Trail.{Trail, settled, from}
 use Rattle.search.specs.Machine.{or-else, first}

@@ -12,7 +12,8 @@ use Rattle.std.specs.declared.option.Option.the-variants.{Some, None}
 use Rattle.std.proofs.shelf.Tests.{cases-eq, eq-eqb, ne-eqb}
 use Rattle.parts.specs.Marks.{other-side, opposite-of}
 use Rattle.parts.specs.declared.Mark.{Mark}
-use Rattle.book.specs.Meaning.{Rule, at-place}
+use Rattle.parts.specs.Lists.{at-place}
+use Rattle.book.specs.Meaning.{Rule}
 use Rattle.search.specs.declared.Entry.{Entry}
 use Rattle.search.specs.declared.Kind.{Kind}
 use Rattle.search.specs.declared.Kind.the-variants.{Held, Picked, Forced}

@@ -12,7 +12,8 @@ use Rattle.std.specs.declared.option.Option.the-variants.{Some, None}
 use Rattle.std.proofs.shelf.Tests.{cases-eq, eqb-true, eq-eqb, ne-eqb, or-cases, or-left, or-right}
 use Rattle.parts.specs.Rows.{row-marks}
 use Rattle.parts.specs.declared.Mark.{Mark}
-use Rattle.book.specs.Meaning.{Rule, at-place}
+use Rattle.parts.specs.Lists.{at-place}
+use Rattle.book.specs.Meaning.{Rule}
 use Rattle.search.specs.declared.Forgetting.{Forgetting}
 use Rattle.search.specs.declared.Kind.{Kind}
 use Rattle.search.specs.declared.Kind.the-variants.{Held, Picked, Forced}

@@ -8,7 +8,8 @@ use lib.ListN.{length}
 use Rattle.std.specs.declared.option.Option.{Option}
 use Rattle.std.specs.declared.option.Option.the-variants.{Some, None}
 use Rattle.parts.specs.declared.refusals.Refusal.{Refusal}
-use Rattle.book.specs.Meaning.{Rule, at-place}
+use Rattle.parts.specs.Lists.{at-place}
+use Rattle.book.specs.Meaning.{Rule}
 use Rattle.search.specs.declared.Reason.{Reason}
 use Rattle.search.specs.declared.Reason.the-variants.{Shelf}
 use Rattle.search.specs.Machine.{Bench, Verdict, working, fits, none-fits, Machine, lesson, rule-at, is-told, run}

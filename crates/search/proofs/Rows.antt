@@ -16,7 +16,8 @@ use Rattle.parts.specs.Rows.{with-mark, marks-from, row-marks}
 use Rattle.parts.specs.declared.Mark.{Mark}
 use Rattle.parts.specs.declared.Side.{Side}
 use Rattle.parts.specs.declared.Side.the-variants.{In, Out}
-use Rattle.book.specs.Meaning.{Rule, at-place, then-at}
+use Rattle.parts.specs.Lists.{at-place, then-at}
+use Rattle.book.specs.Meaning.{Rule}
 use Rattle.search.specs.Trail.{Row, is-side, names-mark, enter, leave}
 use Rattle.search.specs.Law.{Among}
 use Rattle.search.proofs.Basics.{some-eq, none-some, mark-eq, part-eq, side-eq, same-or-opposite, place-set-same, place-set-other, place-within}

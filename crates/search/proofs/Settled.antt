@@ -14,7 +14,8 @@ use Rattle.std.proofs.shelf.Tests.{cases-eq, leb-true, eq-eqb, and-parts, and-f
 use Rattle.parts.specs.Codes.{all-codes, is-row}
 use Rattle.parts.specs.declared.Side.{Side}
 use Rattle.parts.specs.declared.Side.the-variants.{In, Out}
-use Rattle.book.specs.Meaning.{Rule, at-place, names, sound-rule, sound-rules}
+use Rattle.parts.specs.Lists.{at-place}
+use Rattle.book.specs.Meaning.{Rule, names, sound-rule, sound-rules}
 use Rattle.search.specs.Trail.{Trail, settled, code, from, row}
 use Rattle.search.specs.Machine.{Bench, all-settled}
 use Rattle.search.specs.Law.{Among, Lawful, side-shown, shown}

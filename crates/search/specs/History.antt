@@ -9,7 +9,7 @@ use Rattle.std.specs.declared.result.Result.{Result}
 use Rattle.std.specs.declared.result.Result.the-variants.{Ok, Err}
 use Rattle.parts.specs.declared.Mark.{Mark}
 use Rattle.parts.specs.declared.refusals.Refusal.{Refusal}
-use Rattle.book.specs.Meaning.{at-place}
+use Rattle.parts.specs.Lists.{at-place}
 use Rattle.search.specs.declared.Report.{Report}
 use Rattle.search.specs.declared.Told.{Told}
 use Rattle.search.specs.Trail.{Row}

@@ -13,7 +13,8 @@ use Rattle.parts.specs.declared.Mark.{Mark}
 use Rattle.parts.specs.declared.Side.{Side}
 use Rattle.parts.specs.declared.Side.the-variants.{In, Out}
 use Rattle.parts.specs.declared.refusals.Refusal.{Refusal}
-use Rattle.book.specs.Meaning.{Rule, at-place, then-at, sound-rules}
+use Rattle.parts.specs.Lists.{at-place, then-at}
+use Rattle.book.specs.Meaning.{Rule, sound-rules}
 use Rattle.search.specs.Trail.{Row, row}
 use Rattle.search.specs.Machine.{Bench, Machine, Verdict, working, fits, none-fits, lesson, all-settled, is-told}
 use Rattle.search.specs.Calls.{Call, hold, release, run-for, refuses, call, calls, opened}

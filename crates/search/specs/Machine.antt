@@ -10,7 +10,8 @@ use Rattle.std.specs.declared.option.Option.the-variants.{Some, None}
 use Rattle.parts.specs.Marks.{opposite-of}
 use Rattle.parts.specs.Rows.{row-marks}
 use Rattle.parts.specs.declared.Mark.{Mark}
-use Rattle.book.specs.Meaning.{Rule, at-place, then-at}
+use Rattle.parts.specs.Lists.{at-place, then-at}
+use Rattle.book.specs.Meaning.{Rule}
 use Rattle.search.specs.declared.Entry.{Entry}
 use Rattle.search.specs.declared.Forgetting.{Forgetting}
 use Rattle.search.specs.declared.Forgetting.the-variants.{KeepAll, Size, Relevance, Bounded, Both}

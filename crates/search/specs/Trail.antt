@@ -10,7 +10,8 @@ use Rattle.parts.specs.Codes.{code-of, side-of}
 use Rattle.parts.specs.declared.Mark.{Mark}
 use Rattle.parts.specs.declared.Side.{Side}
 use Rattle.parts.specs.declared.Side.the-variants.{In, Out}
-use Rattle.book.specs.Meaning.{Rule, at-place, then-at}
+use Rattle.parts.specs.Lists.{at-place, then-at}
+use Rattle.book.specs.Meaning.{Rule}
 use Rattle.search.specs.declared.Entry.{Entry}
 
 -- the settled parts, the newest entry first

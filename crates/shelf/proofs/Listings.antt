@@ -16,7 +16,8 @@ use Rattle.std.proofs.shelf.Tests.{and-parts, and-from, leb-true, le-leb, ne-eq
 use Rattle.parts.specs.declared.Mark.{Mark}
 use Rattle.parts.specs.Codes.{is-row}
 use Rattle.parts.specs.Rows.{row-marks}
-use Rattle.shelf.specs.Meaning.{every, within, row-of, at-place, then-at, code-of-place, marks-of-place, mark-of-place}
+use Rattle.parts.specs.Lists.{at-place, then-at}
+use Rattle.shelf.specs.Meaning.{every, within, row-of, code-of-place, marks-of-place, mark-of-place}
 use Rattle.shelf.specs.Table.{used, overlay, blocks, read-block, length-rows}
 use Rattle.shelf.specs.Listed.{number-of, mark-from, marks-in, rises, well-formed, code-in, codes-by, list-row, list-block, listed}
 use Rattle.shelf.proofs.Rows.{every-at, row-outside, row-length}

@@ -17,7 +17,8 @@ use Rattle.parts.specs.declared.Side.{Side}
 use Rattle.parts.specs.declared.refusals.Refusal.{Refusal}
 use Rattle.parts.specs.Codes.{side-of}
 use Rattle.parts.specs.Rows.{with-mark, marks-from, row-marks}
-use Rattle.shelf.specs.Meaning.{Shelved, Sound, within, row-of, at-place, then-at, code-of-place, marks-of-place, mark-of-place}
+use Rattle.parts.specs.Lists.{at-place, then-at}
+use Rattle.shelf.specs.Meaning.{Shelved, Sound, within, row-of, code-of-place, marks-of-place, mark-of-place}
 use Rattle.shelf.proofs.Rows.{within-true, row-outside, row-sound, row-length}
 
 -- the row that a code was told of

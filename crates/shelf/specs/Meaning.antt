@@ -5,7 +5,7 @@ use mathlib.Core.Bool.{Bool, true, cond, _&&_}
 use Prim.Native.Nat.{ℕ, zero, suc, _-_, _≤_}
 use lib.Dec.{leb}
 use lib.ListN.{length, getD, set}
-use Rattle.std.specs.Finite.{nth}
+use Rattle.parts.specs.Lists.{at-place, then-at}
 use Rattle.std.specs.Options.{mapped}
 use Rattle.std.specs.declared.option.Option.{Option}
 use Rattle.std.specs.declared.option.Option.the-variants.{Some, None}
@@ -47,15 +47,6 @@ within i most = leb 1 i && leb i most
 abbrev pub row-of : Shelved → ℕ → Option (List ℕ)
 row-of s zero = None
 row-of s (suc i) = getD (s .rows) i None
-
--- what stands at a place of a list that counts from 1
-abbrev pub at-place : {X : Type 0} → List X → ℕ → Option X
-at-place xs zero = None
-at-place xs (suc i) = nth xs i
-
-abbrev pub then-at : {X Y : Type 0} → Option X → (X → Option Y) → Option Y
-then-at None f = None
-then-at (Some x) f = f x
 
 -- a place's code for a part, or nothing where the place is empty
 abbrev pub code-of-place : Shelved → ℕ → ℕ → Result (Option ℕ) Refusal

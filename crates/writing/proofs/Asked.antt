@@ -11,7 +11,8 @@ use Rattle.std.specs.declared.option.Option.the-variants.{Some, None}
 use Rattle.std.proofs.shelf.Lists.{at-drop-more}
 use Rattle.std.proofs.shelf.Maps.{nth-getD}
 use Rattle.parts.specs.declared.Mark.{Mark}
-use Rattle.book.specs.Meaning.{Rule, at-place, then-at, marks-of, mark-of, count-marks}
+use Rattle.parts.specs.Lists.{at-place, then-at}
+use Rattle.book.specs.Meaning.{Rule, marks-of, mark-of, count-marks}
 use Rattle.writing.specs.Put.{rule-at}
 
 place-next : {X : Type 0} (xs : List X) (i : ℕ) (d : X) → i < length xs → at-place xs (i + 1) ≡ Some (getD xs i d)

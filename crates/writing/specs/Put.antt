@@ -7,7 +7,8 @@ use lib.ListN.{length, take}
 use Rattle.std.specs.Options.{valueOr}
 use Rattle.std.specs.declared.option.Option.{Option}
 use Rattle.std.specs.declared.option.Option.the-variants.{Some, None}
-use Rattle.book.specs.Meaning.{Rule, at-place}
+use Rattle.parts.specs.Lists.{at-place}
+use Rattle.book.specs.Meaning.{Rule}
 use Rattle.writing.specs.declared.page.Page.{Page}
 
 -- a text, if a page has room for it

@@ -1,5 +1,5 @@
 use mathlib.Core.Path.{sym, ap}
-use Rattle.book.specs.Meaning.{then-at, at-place}
+use Rattle.parts.specs.Lists.{then-at, at-place}
 use Rattle.book.proofs.Joins.{joined-before, joined-after, joined-none}
 use Rattle.book.proofs.joined.JoinedBook.mark.Needs as need
 

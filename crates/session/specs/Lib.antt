@@ -1,0 +1,4 @@
+pub mod Scan
+pub mod Lists
+pub mod Stack
+pub mod Stacks
