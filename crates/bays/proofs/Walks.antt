@@ -1,11 +1,10 @@
 -- The walks over bays and over the pairs of a bay.
-use mathlib.Core.Path.{_≡_, refl, sym, ap, _∙_}
-use mathlib.Core.Bool.{true}
-use mathlib.Core.List.{List, [], _∷_, _++_, map}
+use mathlib.Core.Path.{_≡_, refl, ap, _∙_}
+use mathlib.Core.List.{List, [], _∷_, map}
 use Prim.Native.Nat.{ℕ, zero, suc, _+_, _-_, _*_, _/_, _≤_, _<_}
-use native.Mathlib.Nat.{mul-comm, mul-suc, suc-mul}
+use native.Mathlib.Nat.{mul-suc, suc-mul}
 use native.Mathlib.Omega.{arith}
-use lib.ListN.{length, getD}
+use lib.ListN.{length}
 use Rattle.std.specs.Finite.{nth}
 use Rattle.std.specs.Iters.{counting}
 use Rattle.std.specs.shelf.Lists.{All}
@@ -17,7 +16,7 @@ use Rattle.std.proofs.shelf.Maps.{nth-getD, nth-past}
 use Rattle.parts.specs.Lists.{at-place}
 use Rattle.book.specs.Meaning.{marks-of}
 use Rattle.book.proofs.Joins.{nth-before, nth-after}
-use Rattle.bays.specs.Meaning.{in-mark, out-mark, some-in, not-both, pairs, bay-rules, bays-rules, pair-count, bay-count}
+use Rattle.bays.specs.Meaning.{in-mark, some-in, not-both, pairs, bay-rules, bays-rules, pair-count, bay-count}
 use Rattle.bays.specs.Fit.{length-pairs}
 use Rattle.bays.specs.Spots.{Spots}
 use Rattle.bays.specs.declared.Spot.{Spot}

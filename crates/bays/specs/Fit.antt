@@ -1,5 +1,5 @@
 -- How many rules the bays have, and why their book is sound.
-use mathlib.Core.Path.{_≡_, refl, sym, ap, _∙_}
+use mathlib.Core.Path.{_≡_, refl, ap}
 use mathlib.Core.Bool.{true, false, _&&_}
 use mathlib.Core.List.{List, [], _∷_, map}
 use Prim.Native.Nat.{ℕ, zero, suc, _+_, _*_, _≤_, _<_}
@@ -12,7 +12,7 @@ use Rattle.std.proofs.shelf.Counted.{length-map-counting}
 use Rattle.std.proofs.shelf.Tests.{and-parts, and-from, or-from, not-from-false, leb-true, le-leb, ne-eqb}
 use Rattle.book.specs.Meaning.{Sound, names, sound-rule, sound-rules}
 use Rattle.book.specs.Joining.{sound-append}
-use Rattle.bays.specs.Meaning.{some-in, not-both, pairs, bay-rules, bays-rules, total, bay-book, pair-count, bay-count, rule-count, fit-widths, fit-bays}
+use Rattle.bays.specs.Meaning.{some-in, not-both, pairs, bay-rules, bays-rules, total, bay-book, pair-count, rule-count, fit-widths, fit-bays}
 
 pub length-pairs : (a w : ℕ) → length (pairs a w) ≡ pair-count w
 length-pairs a zero = refl

@@ -8,7 +8,7 @@ use Rattle.parts.specs.declared.Mark.{Mark}
 use Rattle.parts.specs.declared.Side.{Side}
 use Rattle.parts.specs.declared.Side.the-variants.{In, Out}
 use Rattle.book.specs.Meaning.{Rule}
-use Rattle.bays.specs.Meaning.{in-mark, out-mark, bays-rules, bay-book}
+use Rattle.bays.specs.Meaning.{in-mark, out-mark, bay-book}
 
 abbrev pub is-in : Side → Bool
 is-in In = true

@@ -1,5 +1,4 @@
 -- A book of bays: in each bay exactly one part is in (an at-least-one clause, and an at-most-one clause for each pair).
-use mathlib.Core.Path.{_≡_}
 use mathlib.Core.Bool.{Bool, true, _&&_}
 use mathlib.Core.List.{List, [], _∷_, _++_, map}
 use Prim.Native.Nat.{ℕ, zero, suc, _+_}

@@ -13,40 +13,27 @@ use parts::refusals::RefusalDebug;
 use parts::refusals::RefusalPartialEq;
 use std::test::*;
 
+// A mark of the part, in.
+fn put_in(part: usize) -> Option<Mark> {
+    let side = Side::In;
+    Some(Mark { part, side })
+}
+
+// A mark of the part, out.
+fn put_out(part: usize) -> Option<Mark> {
+    let side = Side::Out;
+    Some(Mark { part, side })
+}
+
 // The three rules of bays of 2 parts and of 1, from a rule on: 1 2; -1 -2; 3.
 fn two_bays<B: Book>(book: &B, from: usize) -> Result<(), Fail> {
     check(from < 1000)?;
     check_eq(book.n(), 3)?;
     check_eq(book.marks(from), Some(2))?;
-    check_eq(book.marks(from + 2), Some(1))?;
-    check_eq(
-        book.mark(from, 2),
-        Some(Mark {
-            part: 2,
-            side: Side::In,
-        }),
-    )?;
-    check_eq(
-        book.mark(from + 1, 1),
-        Some(Mark {
-            part: 1,
-            side: Side::Out,
-        }),
-    )?;
-    check_eq(
-        book.mark(from + 1, 2),
-        Some(Mark {
-            part: 2,
-            side: Side::Out,
-        }),
-    )?;
-    check_eq(
-        book.mark(from + 2, 1),
-        Some(Mark {
-            part: 3,
-            side: Side::In,
-        }),
-    )?;
+    check_eq(book.mark(from, 2), put_in(2))?;
+    check_eq(book.mark(from + 1, 1), put_out(1))?;
+    check_eq(book.mark(from + 1, 2), put_out(2))?;
+    check_eq(book.mark(from + 2, 1), put_in(3))?;
     check_eq(book.mark(from + 2, 2), None)
 }
 
@@ -85,11 +72,5 @@ fn bays_refuse(rt: LibcRuntime) -> Result<(), Fail> {
         return Err(Fail::new("3 parts and 4"));
     };
     check_eq(unjoined.refusal, Refusal::JoinPartsDiffer)?;
-    check_eq(
-        unjoined.second.mark(7, 1),
-        Some(Mark {
-            part: 3,
-            side: Side::Out,
-        }),
-    )
+    check_eq(unjoined.second.mark(7, 1), put_out(3))
 }

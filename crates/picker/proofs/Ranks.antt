@@ -1,19 +1,17 @@
 -- The loop over the parts of a ranked list, and what its first open mark is to a row.
-use mathlib.Core.Path.{_≡_, refl, sym, ap, _∙_}
+use mathlib.Core.Path.{_≡_, refl, sym, _∙_}
 use mathlib.Core.Bool.{true, false}
 use mathlib.Core.Logic.{⊎-elim}
 use mathlib.Core.List.{List, [], _∷_}
 use Prim.Native.Nat.{ℕ, zero, suc, _+_, _-_, _<_}
 use native.Mathlib.Omega.{arith}
 use native.Mathlib.Numerals.{add-one}
-use lib.Dec.{eqb}
 use lib.ListN.{length, getD}
 use Rattle.std.specs.shelf.Lists.{All}
 use Rattle.std.specs.Options.{Cases, valueOr}
 use Rattle.std.specs.declared.option.Option.{Option}
 use Rattle.std.specs.declared.option.Option.the-variants.{Some, None}
 use Rattle.std.proofs.shelf.Tests.{and-parts, and-from, cases-bool, cond-true, cond-false, and-right, eq-eqb, eqb-true, or-left, or-right, both-ways}
-use Rattle.std.proofs.shelf.Ways.{tells}
 use Rattle.parts.specs.declared.Mark.{Mark}
 use Rattle.parts.specs.Codes.{is-row}
 use Rattle.picker.specs.Meaning.{some-open, picked, asks}

@@ -2,14 +2,13 @@
 use mathlib.Core.Path.{_≡_, refl}
 use mathlib.Core.Bool.{Bool, true, false, cond}
 use mathlib.Core.List.{List, [], _∷_}
-use Prim.Native.Nat.{ℕ, zero, suc, _-_, _≤_}
+use Prim.Native.Nat.{ℕ, zero, suc, _-_}
 use native.Mathlib.Omega.{arith}
 use lib.Dec.{eqb}
-use lib.ListN.{length, getD}
+use lib.ListN.{length}
 use Rattle.std.proofs.shelf.Tests.{and-parts, leb-true, eqb-true, false≢true}
-use Rattle.parts.specs.declared.Mark.{Mark}
 use Rattle.parts.specs.declared.Side.the-variants.{Out}
-use Rattle.picker.specs.Meaning.{Picks, Free, Sound, some-open, asks, a-size}
+use Rattle.picker.specs.Meaning.{Picks, Free, Sound, some-open, a-size}
 
 -- the lowest open part of a row that has one
 abbrev pub lowest-open : List ℕ → ℕ

@@ -60,20 +60,21 @@ Once hs = (g h : Mark) → Among g hs → Among h hs → g .part ≡ h .part →
 
 -- turns and steps where a verdict stands
 abbrev pub Final : Bench → ℕ → ℕ → Type 0
-Final b turns steps = (turns ≤ 2 ^ (b .parts)) × (steps ≤ (b .parts + 1) * 2 ^ (b .parts))
+Final b turns steps = (turns ≤ 2 ^ (b .book .n)) × (steps ≤ (b .book .n + 1) * 2 ^ (b .book .n))
 
 -- what is kept of the counts and the verdict
 abbrev pub Tells : Bench → Machine → Verdict → Type 0
-Tells b m working = (m .turns ≤ worth (b .parts) (m .trail)) × (m .steps ≤ m .turns * (b .parts + 1) + length (m .trail))
+Tells b m working = (m .turns ≤ worth (b .book .n) (m .trail)) × (m .steps ≤ m .turns * (b .book .n + 1) + length (m .trail))
 Tells b m fits = Final b (m .turns) (m .steps) × Stands b m fits
 Tells b m (none-fits r) = Final b (m .turns) (m .steps) × Stands b m (none-fits r)
 
--- THE INVARIANT: holds, places, rules, trail, counts and verdict
+-- THE INVARIANT: holds, shelf, rules, trail, counts and verdict
 pub record Inv (b : Bench) (m : Machine) : Type 0 where
   pub once : Once (m .holds)
-  pub range : Ranged (b .parts) (m .holds)
-  pub room : b .parts ≤ length (m .places)
-  pub back : m .last ≤ length (m .places)
-  pub good : (r : Reason) (R : Rule) → rule-at (b .rules) (m .places) r ≡ Some R → Follows (Obeys (b .rules)) R × Ranged (b .parts) R
-  pub sound : Sound (b .parts) (m .holds) (rule-at (b .rules) (m .places)) (m .trail)
+  pub range : Ranged (b .book .n) (m .holds)
+  pub same : m .shelf .n ≡ b .book .n
+  pub room : b .book .n ≤ length (m .shelf .rows)
+  pub back : m .last ≤ length (m .shelf .rows)
+  pub good : (r : Reason) (R : Rule) → rule-at (b .book .rules) (m .shelf .rows) r ≡ Some R → Follows (Obeys (b .book .rules)) R × Ranged (b .book .n) R
+  pub sound : Sound (b .book .n) (m .holds) (rule-at (b .book .rules) (m .shelf .rows)) (m .trail)
   pub tells : Tells b m (m .verdict)

@@ -6,7 +6,7 @@ use mathlib.Core.Path.{_≡_, refl, sym, ap, _∙_}
 use Prim.Native.Nat.{ℕ, zero, suc, _+_, _≤_}
 use native.Mathlib.Omega.{arith}
 use lib.Dec.{eqb, ltb}
-use lib.ListN.{replicate, length-replicate}
+use lib.ListN.{length, replicate, length-replicate}
 use Rattle.std.specs.Finite.{nth}
 use Rattle.std.specs.Options.{isSome}
 use Rattle.std.specs.declared.option.Option.{Option}
@@ -17,11 +17,13 @@ use Rattle.parts.specs.declared.Mark.{Mark}
 use Rattle.parts.specs.declared.Side.{Side}
 use Rattle.parts.specs.declared.refusals.Refusal.{Refusal}
 use Rattle.book.specs.Meaning.{Rule, names}
+use Rattle.picker.specs.Meaning.{picked}
+use Rattle.shelf.specs.Meaning.{Shelved}
 use Rattle.search.specs.declared.Reason.{Reason}
 use Rattle.search.specs.declared.Reason.the-variants.{Book, Shelf}
-use Rattle.search.specs.Trail.{Row, enter}
+use Rattle.search.specs.Trail.{Row, row, enter}
 use Rattle.search.specs.Machine.{Bench, Verdict, working, fits, none-fits, Machine, lesson, rule-at, Move, turn-on, force, settle, fit, ask}
-use Rattle.search.specs.Machine.{look, Outcome, bottom, stop, turn, pushed, turned, fitted, marks-at, act, step, is-told, run}
+use Rattle.search.specs.Machine.{look, Outcome, bottom, stop, turn, pushed, turned, idle, fitted, asked, marks-at, act, step, is-told, run}
 use Rattle.search.specs.Calls.{opened, restarted, Call, hold, release, run-for, no-part, if-so, refuses, held-on, released, accepted, unless, call, calls}
 use Rattle.search.specs.Law.{Among, Obeys, Lawful}
 use Rattle.search.proofs.Basics.{none-some, some-none, part-eq, among-either, place-among}
@@ -36,8 +38,8 @@ not-told (none-fits r) h = absurd (true≢false h)
 
 -- each step counts one
 act-steps : (b : Bench) (m : Machine) (v : Move) → act b m v .steps ≡ suc (m .steps)
-unfolding act pushed fitted turned
-act-steps b m (turn-on r) = go (turn (rule-at (b .rules) (m .places)) (enter (replicate (b .parts) 0) (marks-at (rule-at (b .rules) (m .places) r))) (m .trail))
+unfolding act pushed fitted turned idle
+act-steps b m (turn-on r) = go (turn (rule-at (b .book .rules) (m .shelf .rows)) (enter (replicate (b .book .n) 0) (marks-at (rule-at (b .book .rules) (m .shelf .rows) r))) (m .trail))
   where
     go : (o : Outcome) → turned b m o .steps ≡ suc (m .steps)
     go (bottom c) = refl
@@ -45,16 +47,20 @@ act-steps b m (turn-on r) = go (turn (rule-at (b .rules) (m .places)) (enter (re
 act-steps b m (force p) = refl
 act-steps b m (settle h) = refl
 act-steps b m fit = refl
-act-steps b m ask = refl
+act-steps b m ask = go (picked (b .picker) (row (b .book .n) (m .trail)))
+  where
+    go : (o : Option Mark) → asked m o .steps ≡ suc (m .steps)
+    go None = refl
+    go (Some x) = refl
 
 -- a step and a run keep the invariant
-pub step-inv : {b : Bench} {m : Machine} → Lawful b → Inv b m → is-told (m .verdict) ≡ false → Inv b (step b m)
-step-inv {b} {m} law inv h = step-ok b m law inv (not-told (m .verdict) h)
+pub step-inv : {b : Bench} {s : Shelved} {m : Machine} → Lawful b s → Inv b m → is-told (m .verdict) ≡ false → Inv b (step b m)
+step-inv {b} {s} {m} law inv h = step-ok b s m law inv (not-told (m .verdict) h)
 
-pub run-inv : {b : Bench} {m : Machine} → Lawful b → Inv b m → (k : ℕ) → Inv b (run b k m)
+pub run-inv : {b : Bench} {s : Shelved} {m : Machine} → Lawful b s → Inv b m → (k : ℕ) → Inv b (run b k m)
 unfolding run
 run-inv law inv zero = inv
-run-inv {b} {m} law inv (suc k) =
+run-inv {b} {s} {m} law inv (suc k) =
     (elim (is-told (m .verdict)) as (λ v. is-told (m .verdict) ≡ v → Inv b (elim v [ true ↦ m | false ↦ run b k (step b m) ])) [
       | true ↦ λ e. inv
       | false ↦ λ e. run-inv {m = step b m} law (step-inv law inv e) k
@@ -119,12 +125,13 @@ once-more hs p v once free g h i j q =
     apart x a e = true≢false (sym (among-names hs x a) ∙ (ap (names hs) e ∙ free))
 
 -- other holds start the search again
-restarted-inv : {b : Bench} {m : Machine} → Inv b m → (hs : List Mark) → Once hs → Ranged (b .parts) hs → Inv b (restarted m hs)
+restarted-inv : {b : Bench} {m : Machine} → Inv b m → (hs : List Mark) → Once hs → Ranged (b .book .n) hs → Inv b (restarted m hs)
 unfolding restarted worth
 restarted-inv inv hs once range =
     record {
       once = once;
       range = range;
+      same = inv .same;
       room = inv .room;
       back = inv .back;
       good = inv .good;
@@ -145,10 +152,10 @@ in-parts n p h =
     (omega arith, ltb-false n p c)
 
 -- an accepted call keeps the invariant
-accepted-inv : {b : Bench} {m : Machine} → Lawful b → Inv b m → (c : Call) → refuses b m c ≡ None → Inv b (accepted b c m)
+accepted-inv : {b : Bench} {s : Shelved} {m : Machine} → Lawful b s → Inv b m → (c : Call) → refuses b m c ≡ None → Inv b (accepted b c m)
 unfolding refuses accepted
 accepted-inv {b} {m} law inv (hold p s) z =
-    let (a, z′) = no-refusal (no-part (b .parts) p) _ _ z in
+    let (a, z′) = no-refusal (no-part (b .book .n) p) _ _ z in
     let (d, z″) = no-refusal (not (isSome (side-of s))) _ _ z′ in
     let (free, z‴) = no-refusal (names (m .holds) p) _ _ z″ in
     let new : List Mark = held-on p (side-of s) in
@@ -156,7 +163,7 @@ accepted-inv {b} {m} law inv (hold p s) z =
     (λ h i.
     elim (among-either (m .holds) new h i) [
       | inl j ↦ inv .range h j
-      | inr j ↦ rw (new-part p (side-of s) h j) (in-parts (b .parts) p a)
+      | inr j ↦ rw (new-part p (side-of s) h j) (in-parts (b .book .n) p a)
     ])
 accepted-inv {b} {m} law inv (release p) z =
     restarted-inv inv (released p (m .holds))
@@ -165,18 +172,18 @@ accepted-inv {b} {m} law inv (release p) z =
 accepted-inv law inv (run-for k) z = run-inv law inv k
 
 -- every call keeps the invariant, refused or accepted
-pub call-inv : {b : Bench} {m : Machine} → Lawful b → Inv b m → (c : Call) → Inv b (call b c m)
+pub call-inv : {b : Bench} {s : Shelved} {m : Machine} → Lawful b s → Inv b m → (c : Call) → Inv b (call b c m)
 unfolding call
-call-inv {b} {m} law inv c = go (refuses b m c) (accepted-inv law inv c)
+call-inv {b} {s} {m} law inv c = go (refuses b m c) (accepted-inv law inv c)
   where
     go : (o : Option Refusal) → (o ≡ None → Inv b (accepted b c m)) → Inv b (unless o m (accepted b c m))
     go None h = h refl
     go (Some why) h = inv
 
-pub calls-inv : {b : Bench} {m : Machine} → Lawful b → Inv b m → (cs : List Call) → Inv b (calls b cs m)
+pub calls-inv : {b : Bench} {s : Shelved} {m : Machine} → Lawful b s → Inv b m → (cs : List Call) → Inv b (calls b cs m)
 unfolding calls
 calls-inv law inv [] = inv
-calls-inv {b} {m} law inv (c ∷ cs) = calls-inv {m = call b c m} law (call-inv law inv c) cs
+calls-inv {b} {s} {m} law inv (c ∷ cs) = calls-inv {m = call b c m} law (call-inv law inv c) cs
 
 -- an opened session has no lesson, and has the invariant
 no-lesson : (k j : ℕ) (R : Rule) → lesson (nth (replicate k None) j) ≡ Some R → ⊥
@@ -184,20 +191,24 @@ no-lesson zero j R h = none-some h
 no-lesson (suc k) zero R h = none-some h
 no-lesson (suc k) (suc j) R h = no-lesson k j R h
 
-pub opened-inv : {b : Bench} → Lawful b → (k : ℕ) → b .parts ≤ k → Inv b (opened k)
+pub opened-inv : {b : Bench} {s : Shelved} → Lawful b s → Inv b (opened s)
 unfolding opened worth rule-at
-opened-inv {b} law k room =
+opened-inv {b} {s} law =
     record {
       once = λ g h i j q. absurd i;
       range = λ y i. absurd i;
-      room = omega (arith, length-replicate {A = Option Row} k None);
+      same = law .same-shelf;
+      room = omega (arith, law .shelf .enough, law .same-shelf, length-replicate {A = Option Row} k None);
       back = omega arith;
       good = good;
       sound = tt;
       tells = (omega arith, omega arith);
     }
   where
-    good : (r : Reason) (R : Rule) → rule-at (b .rules) (replicate k None) r ≡ Some R → Follows (Obeys (b .rules)) R × Ranged (b .parts) R
-    good (Book i) R h = let a = place-among (b .rules) i R h in (λ f ob. ob R a, within b law R a)
+    k : ℕ
+    k = length (s .rows)
+
+    good : (r : Reason) (R : Rule) → rule-at (b .book .rules) (replicate k None) r ≡ Some R → Follows (Obeys (b .book .rules)) R × Ranged (b .book .n) R
+    good (Book i) R h = let a = place-among (b .book .rules) i R h in (λ f ob. ob R a, within b (law .book) R a)
     good (Shelf zero) R h = absurd (none-some h)
     good (Shelf (suc j)) R h = absurd (no-lesson k j R h)

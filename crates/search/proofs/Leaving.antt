@@ -16,12 +16,12 @@ pub refused-same : (b : Bench) (m : Machine) (c : Call) (why : Refusal) → refu
 unfolding call
 refused-same b m c why e = ap (λ r. unless r m (accepted b c m)) e
 
-unless-same : (r : Option Refusal) (m : Machine) (hs : List Mark) → (unless r m (restarted m hs) .places ≡ m .places) × (unless r m (restarted m hs) .last ≡ m .last)
+unless-same : (r : Option Refusal) (m : Machine) (hs : List Mark) → (unless r m (restarted m hs) .shelf ≡ m .shelf) × (unless r m (restarted m hs) .last ≡ m .last)
 unfolding restarted
 unless-same None m hs = (refl, refl)
 unless-same (Some why) m hs = (refl, refl)
 
-restart-lessons : (b : Bench) (m : Machine) (c : Call) → is-run c ≡ false → (call b c m .places ≡ m .places) × (call b c m .last ≡ m .last)
+restart-lessons : (b : Bench) (m : Machine) (c : Call) → is-run c ≡ false → (call b c m .shelf ≡ m .shelf) × (call b c m .last ≡ m .last)
 unfolding call accepted
 restart-lessons b m (hold p s) e = unless-same (refuses b m (hold p s)) m _
 restart-lessons b m (release p) e = unless-same (refuses b m (release p)) m _

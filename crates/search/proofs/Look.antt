@@ -13,6 +13,7 @@ use Rattle.std.proofs.shelf.Tests.{cases-eq, eq-eqb, ne-eqb}
 use Rattle.parts.specs.Marks.{other-side, opposite-of}
 use Rattle.parts.specs.declared.Mark.{Mark}
 use Rattle.parts.specs.Lists.{at-place}
+use Rattle.book.specs.Meaning as books
 use Rattle.book.specs.Meaning.{Rule}
 use Rattle.search.specs.declared.Entry.{Entry}
 use Rattle.search.specs.declared.Kind.{Kind}
@@ -22,9 +23,9 @@ use Rattle.search.specs.declared.Reason.the-variants.{Book, Shelf}
 use Rattle.search.specs.Trail.{Trail, Row, settled, from, row, truth, State, broken, pressing, quiet, names-mark, enter}
 use Rattle.search.specs.Machine.{Bench, Places, Machine, rule-at, state-of, reasons, first, if-broken, Press, if-pressing, reason-in, reason-of, if-crossed}
 use Rattle.search.specs.Machine.{if-open, Move, turn-on, force, settle, fit, ask, choose, all-settled, look, is-picked, turn, marks-at}
-use Rattle.search.specs.Law.{Among, Choice, Obeys, Lawful}
+use Rattle.search.specs.Law.{Among, Choice, Obeys}
 use Rattle.search.proofs.Basics.{clash, some-eq, none-some, some-none, not-self, mark-eq, part-eq, side-eq, twice-opposite, among-left, among-map, among-from, first-some, first-none, place-within, among-nth, settled-here, settled-there}
-use Rattle.search.proofs.Rows.{Names, not-names, enter-length, enter-comes, enter-from, empty-row}
+use Rattle.search.proofs.Rows.{Names, not-names, enter-length, enter-codes, enter-comes, enter-from, empty-row, empty-codes}
 use Rattle.search.proofs.Invariant.{Failed, Ranged, Kept, Why, Sound, Once}
 use Rattle.search.proofs.Settled.{row-settled, within}
 use Rattle.search.proofs.Turn.{top, top-falls, sound-length, Good, Fine, Covered, Ends, turn-ok}
@@ -149,6 +150,7 @@ module _ (n : ℕ) (Ob : Choice → Type 0) (hs : Rule) (at : Reason → Option 
   start-fine R (fol, range) apart = (
     λ f ob. let (y, i, ty) = fol f ob in (y, enter-comes (replicate n 0) R y (λ z j. let q = range z j in (q .0, omega (arith, q .1, length-replicate {A = ℕ} n 0))) i (apart y i), ty),
     enter-length (replicate n 0) R ∙ length-replicate {A = ℕ} n 0,
+    enter-codes (replicate n 0) R (empty-codes n),
   )
 
 -- the state of what stands at a reason
@@ -171,10 +173,10 @@ book-among rs s i R h =
 module _ (b : Bench) (m : Machine) where
   -- the bench and the state in short: parts, rules, holds, trail, and what stands at a reason
   abbrev n : ℕ
-  n = b .parts
+  n = b .book .n
 
   abbrev Ob : Choice → Type 0
-  Ob = Obeys (b .rules)
+  Ob = Obeys (b .book .rules)
 
   abbrev hs : List Mark
   hs = m .holds
@@ -183,11 +185,11 @@ module _ (b : Bench) (m : Machine) where
   t = m .trail
 
   abbrev pub at-of : Reason → Option Rule
-  at-of = rule-at (b .rules) (m .places)
+  at-of = rule-at (b .book .rules) (m .shelf .rows)
 
   -- each rule of the book has a mark that is true under the trail
   abbrev pub Met : Type 0
-  Met = (R : Rule) → Among R (b .rules) → (y : Mark) × Among y R × (settled t (y .part) ≡ Some (y .side))
+  Met = (R : Rule) → Among R (b .book .rules) → (y : Mark) × Among y R × (settled t (y .part) ≡ Some (y .side))
 
   -- what holds where a step does this
   abbrev pub Looked : Move → Type 0
@@ -200,13 +202,13 @@ module _ (b : Bench) (m : Machine) where
   Looked fit = Kept hs t × Met × (all-settled (row n t) ≡ true)
   Looked ask = Kept hs t × (all-settled (row n t) ≡ false)
 
-  module _ (law : Lawful b) (once : Once hs) (ok : (r : Reason) (R : Rule) → at-of r ≡ Some R → Good n Ob hs at-of R)
+  module _ (law : books.Sound (b .book)) (once : Once hs) (ok : (r : Reason) (R : Rule) → at-of r ≡ Some R → Good n Ob hs at-of R)
       (sound : Sound n hs at-of t) where
     abbrev st : Reason → State
     st r = state-of t (at-of r)
 
     abbrev all : List Reason
-    all = reasons (b .rules) (m .places)
+    all = reasons (b .book .rules) (m .shelf .rows)
 
     abbrev crossed : Mark → Option Reason
     crossed h = if-crossed (reason-of t (h .part)) (truth t h)
@@ -224,9 +226,9 @@ module _ (b : Bench) (m : Machine) where
     met : first (λ r. if-broken r (st r)) all ≡ None → first (λ r. if-pressing r (st r)) all ≡ None → all-settled (row n t) ≡ true → Met
     unfolding rule-at row
     met ea ep ev R am =
-        let (j, is) = among-nth (b .rules) R am in
+        let (j, is) = among-nth (b .book .rules) R am in
         let i : ℕ = suc j in
-        let here = book-among (b .rules) (m .places) i R is in
+        let here = book-among (b .book .rules) (m .shelf .rows) i R is in
         neither t R (Book i) (st (Book i))
         (first-none (λ r. if-broken r (st r)) all ea (Book i) here)
         (first-none (λ r. if-pressing r (st r)) all ep (Book i) here)

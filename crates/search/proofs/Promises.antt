@@ -10,6 +10,7 @@ use Rattle.std.specs.declared.option.Option.the-variants.{Some, None}
 use Rattle.parts.specs.declared.refusals.Refusal.{Refusal}
 use Rattle.parts.specs.Lists.{at-place}
 use Rattle.book.specs.Meaning.{Rule}
+use Rattle.shelf.specs.Meaning.{Shelved}
 use Rattle.search.specs.declared.Reason.{Reason}
 use Rattle.search.specs.declared.Reason.the-variants.{Shelf}
 use Rattle.search.specs.Machine.{Bench, Verdict, working, fits, none-fits, Machine, lesson, rule-at, is-told, run}
@@ -22,13 +23,13 @@ use Rattle.search.proofs.Keeping.{run-inv, run-used, calls-inv, opened-inv}
 
 -- the bound on the steps
 abbrev pub bound : Bench → ℕ
-bound b = (b .parts + 1) * 2 ^ (b .parts)
+bound b = (b .book .n + 1) * 2 ^ (b .book .n)
 
 -- where no verdict stands, turns and steps are below their bounds
-working-below : (b : Bench) (m : Machine) → Inv b m → Tells b m working → (m .turns < 2 ^ (b .parts)) × (m .steps < bound b)
+working-below : (b : Bench) (m : Machine) → Inv b m → Tells b m working → (m .turns < 2 ^ (b .book .n)) × (m .steps < bound b)
 working-below b m inv w =
-    let n = b .parts in
-    let at : Reason → Option Rule = rule-at (b .rules) (m .places) in
+    let n = b .book .n in
+    let at : Reason → Option Rule = rule-at (b .book .rules) (m .shelf .rows) in
     let few : m .turns < 2 ^ n = omega (arith, w .0, worth-below n (m .holds) at (m .trail) (inv .sound)) in
     (few, final-steps n (m .turns) (m .steps) (length (m .trail)) few (w .1) (sound-length n (m .holds) at (m .trail) (inv .sound)))
 
@@ -39,7 +40,7 @@ told-or-below b m inv fits w = (w .1, w .0, λ h. absurd (true≢false h))
 told-or-below b m inv (none-fits r) w = (w .1, w .0, λ h. absurd (true≢false h))
 
 -- every full choice that meets the book's rules meets each lesson
-pub inv-lessons : {b : Bench} {m : Machine} → Inv b m → (i : ℕ) (r : Rule) → lesson (at-place (m .places) i) ≡ Some r → (f : Choice) → Obeys (b .rules) f → Meets f r
+pub inv-lessons : {b : Bench} {m : Machine} → Inv b m → (i : ℕ) (r : Rule) → lesson (at-place (m .shelf .rows) i) ≡ Some r → (f : Choice) → Obeys (b .book .rules) f → Meets f r
 unfolding rule-at
 inv-lessons inv i r h = inv .good (Shelf i) r h .0
 
@@ -48,7 +49,7 @@ pub inv-verdict : {b : Bench} {m : Machine} → Inv b m → Stands b m (m .verdi
 inv-verdict {b} {m} inv = told-or-below b m inv (m .verdict) (inv .tells) .0
 
 -- turns and steps are bounded
-pub inv-turns : {b : Bench} {m : Machine} → Inv b m → m .turns ≤ 2 ^ (b .parts)
+pub inv-turns : {b : Bench} {m : Machine} → Inv b m → m .turns ≤ 2 ^ (b .book .n)
 inv-turns {b} {m} inv = told-or-below b m inv (m .verdict) (inv .tells) .1 .0
 
 pub inv-steps : {b : Bench} {m : Machine} → Inv b m → m .steps ≤ bound b
@@ -59,12 +60,12 @@ pub inv-below : {b : Bench} {m : Machine} → Inv b m → is-told (m .verdict) �
 inv-below {b} {m} inv = told-or-below b m inv (m .verdict) (inv .tells) .2
 
 -- a trail has at most one entry for each part
-pub inv-trail : {b : Bench} {m : Machine} → Inv b m → length (m .trail) ≤ b .parts
-inv-trail {b} {m} inv = sound-length (b .parts) (m .holds) (rule-at (b .rules) (m .places)) (m .trail) (inv .sound)
+pub inv-trail : {b : Bench} {m : Machine} → Inv b m → length (m .trail) ≤ b .book .n
+inv-trail {b} {m} inv = sound-length (b .book .n) (m .holds) (rule-at (b .book .rules) (m .shelf .rows)) (m .trail) (inv .sound)
 
 -- a run whose budget reaches the bound ends told
-pub run-told : {b : Bench} {m : Machine} → Lawful b → Inv b m → (k : ℕ) → bound b ≤ m .steps + k → is-told (run b k m .verdict) ≡ true
-run-told {b} {m} law inv k h = go (is-told (run b k m .verdict)) refl
+pub run-told : {b : Bench} {s : Shelved} {m : Machine} → Lawful b s → Inv b m → (k : ℕ) → bound b ≤ m .steps + k → is-told (run b k m .verdict) ≡ true
+run-told {b} {s} {m} law inv k h = go (is-told (run b k m .verdict)) refl
   where
     go : (v : Bool) → is-told (run b k m .verdict) ≡ v → v ≡ true
     go true e = refl
@@ -109,5 +110,5 @@ inv-promised {b} {m} inv given used =
 
 -- THE LAW
 pub search-keeps-its-promises : Search-keeps-its-promises
-search-keeps-its-promises b k cs law room =
-    inv-promised (calls-inv law (opened-inv law k room) cs) (budgets b cs (opened k) 0) (calls-used b cs (opened k) 0 (λ h. omega arith))
+search-keeps-its-promises b s cs law =
+    inv-promised (calls-inv law (opened-inv law) cs) (budgets b cs (opened s) 0) (calls-used b cs (opened s) 0 (λ h. omega arith))

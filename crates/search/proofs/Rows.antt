@@ -5,12 +5,13 @@ use mathlib.Core.Logic.{_⊎_, inl, inr, _≢_}
 use mathlib.Core.Path.{_≡_, refl, sym, ap, subst, _∙_}
 use Prim.Native.Nat.{ℕ, zero, suc, _+_, _-_, _≤_}
 use native.Mathlib.Omega.{arith}
+use lib.Dec.{leb}
 use lib.ListN.{length, set, replicate, length-set}
 use Rattle.std.specs.Finite.{nth}
 use Rattle.std.specs.declared.option.Option.{Option}
 use Rattle.std.specs.declared.option.Option.the-variants.{Some, None}
-use Rattle.std.proofs.shelf.Tests.{cases-eq}
-use Rattle.parts.specs.Codes.{code-of, side-of}
+use Rattle.std.proofs.shelf.Tests.{cases-eq, and-parts, and-from}
+use Rattle.parts.specs.Codes.{code-of, side-of, all-codes}
 use Rattle.parts.specs.Marks.{opposite-of}
 use Rattle.parts.specs.Rows.{with-mark, marks-from, row-marks}
 use Rattle.parts.specs.declared.Mark.{Mark}
@@ -91,6 +92,31 @@ pub enter-length : (c : Row) (r : Rule) → length (enter c r) ≡ length c
 unfolding enter
 enter-length c [] = refl
 enter-length c (m ∷ r) = enter-length (put c m) r ∙ length-set c (m .part - 1) (code-of (m .side))
+
+-- codes stay codes
+set-codes : (c : Row) (j v : ℕ) → leb v 2 ≡ true → all-codes c ≡ true → all-codes (set c j v) ≡ true
+set-codes [] j v l h = h
+set-codes (x ∷ c) zero v l h = and-from (leb v 2) (all-codes c) l (and-parts (leb x 2) (all-codes c) h .1)
+set-codes (x ∷ c) (suc j) v l h =
+    let (a, k) = and-parts (leb x 2) (all-codes c) h in
+    and-from (leb x 2) (all-codes (set c j v)) a (set-codes c j v l k)
+
+pub enter-codes : (c : Row) (r : Rule) → all-codes c ≡ true → all-codes (enter c r) ≡ true
+unfolding enter
+enter-codes c [] h = h
+enter-codes c (m ∷ r) h = enter-codes (put c m) r (set-codes c (m .part - 1) (code-of (m .side)) (small (m .side)) h)
+  where
+    small : (s : Side) → leb (code-of s) 2 ≡ true
+    small In = refl
+    small Out = refl
+
+pub leave-codes : (p : ℕ) (c : Row) → all-codes c ≡ true → all-codes (leave p c) ≡ true
+unfolding leave
+leave-codes p c h = set-codes c (p - 1) 0 refl h
+
+pub empty-codes : (n : ℕ) → all-codes (replicate n 0) ≡ true
+empty-codes zero = refl
+empty-codes (suc n) = empty-codes n
 
 -- what stays, what comes, and nothing else
 pub enter-stays : (c : Row) (r : Rule) (y : Mark) → Within c r → Names c y → (Among (opposite-of y) r → ⊥) → Names (enter c r) y

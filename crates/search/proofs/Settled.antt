@@ -1,24 +1,27 @@
 -- The settled row: its codes, and the choice that it shows; and the parts that a lawful bench speaks of.
-use mathlib.Core.Bool.{true, not, _&&_, false≢true}
+use mathlib.Core.Bool.{true, false, not, _&&_, true≢false, false≢true}
 use mathlib.Core.List.{List, [], _∷_, map}
 use mathlib.Core.Logic.{inl, inr, _≢_}
 use mathlib.Core.Path.{_≡_, refl, sym, ap, subst, _∙_}
-use Prim.Native.Nat.{ℕ, zero, suc, _+_, _≤_, _<_}
+use Prim.Native.Nat.{ℕ, zero, suc, _+_, _-_, _≤_, _<_}
 use native.Mathlib.Omega.{arith}
 use lib.Dec.{eqb, leb}
-use lib.ListN.{length}
+use lib.ListN.{length, getD}
 use Rattle.std.specs.Finite.{nth}
 use Rattle.std.specs.declared.option.Option.{Option}
 use Rattle.std.specs.declared.option.Option.the-variants.{Some, None}
-use Rattle.std.proofs.shelf.Tests.{cases-eq, leb-true, eq-eqb, and-parts, and-from}
+use Rattle.std.proofs.shelf.Tests.{cases-eq, leb-true, eq-eqb, and-parts, and-from, or-right}
 use Rattle.parts.specs.Codes.{all-codes, is-row}
 use Rattle.parts.specs.declared.Side.{Side}
 use Rattle.parts.specs.declared.Side.the-variants.{In, Out}
 use Rattle.parts.specs.Lists.{at-place}
+use Rattle.book.specs.Meaning as books
 use Rattle.book.specs.Meaning.{Rule, names, sound-rule, sound-rules}
-use Rattle.search.specs.Trail.{Trail, settled, code, from, row}
+use Rattle.picker.specs.Meaning as pickers
+use Rattle.picker.specs.Meaning.{Picks, some-open, asks}
+use Rattle.search.specs.Trail.{Trail, Row, settled, code, from, row}
 use Rattle.search.specs.Machine.{Bench, all-settled}
-use Rattle.search.specs.Law.{Among, Lawful, side-shown, shown}
+use Rattle.search.specs.Law.{Among, side-shown, shown}
 use Rattle.search.proofs.Basics.{part-eq}
 use Rattle.search.proofs.Rows.{side-in}
 use Rattle.search.proofs.Invariant.{Ranged}
@@ -107,5 +110,28 @@ rules-within n (x ∷ rs) h r i =
       | inr j ↦ rules-within n rs k r j
     ]
 
-pub within : (b : Bench) → Lawful b → (r : Rule) → Among r (b .rules) → Ranged (b .parts) r
-within b law = rules-within (b .parts) (b .rules) (law .rules-sound)
+pub within : (b : Bench) → books.Sound (b .book) → (r : Rule) → Among r (b .book .rules) → Ranged (b .book .n) r
+within b law = rules-within (b .book .n) (b .book .rules) (law .rules-sound)
+
+-- a row with an open part is one that a picker has an answer for
+pub open-asked : (c : Row) → all-settled c ≡ false → some-open c ≡ true
+unfolding all-settled
+open-asked [] h = absurd (true≢false h)
+open-asked (zero ∷ c) h = refl
+open-asked (suc k ∷ c) h = or-right (eqb (suc k) 0) (some-open c) (open-asked c h)
+
+-- an open code by its place
+open-nth : (c : Row) (j : ℕ) → getD c j 1 ≡ 0 → nth c j ≡ Some 0
+open-nth [] j h = absurd (omega arith)
+open-nth (x ∷ c) zero h = ap Some h
+open-nth (x ∷ c) (suc j) h = open-nth c j h
+
+-- a lawful picker has an answer for a settled row with an open part, and picks an open one of n parts
+pub answer-some : (p : Picks) (n : ℕ) (t : Trail) → p .n ≡ n → all-settled (row n t) ≡ false → asks (p .n) (row n t) ≡ true
+answer-some p n t same h = rw same (and-from (is-row n (row n t)) (some-open (row n t)) (settled-row n t) (open-asked (row n t) h))
+
+pub answer-open : (c : Row) (n p : ℕ) → pickers.Free n c p → at-place c p ≡ Some 0
+answer-open c n zero f = absurd (omega (arith, f .first))
+answer-open c n (suc j) f =
+    let e : suc j - 1 ≡ j = omega arith in
+    open-nth c j (sym (ap (λ i. getD c i 1) e) ∙ f .free)

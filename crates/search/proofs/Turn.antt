@@ -10,6 +10,7 @@ use lib.ListN.{length}
 use Rattle.std.specs.declared.option.Option.{Option}
 use Rattle.std.specs.declared.option.Option.the-variants.{Some, None}
 use Rattle.std.proofs.shelf.Tests.{cases-eq, and-parts}
+use Rattle.parts.specs.Codes.{all-codes}
 use Rattle.parts.specs.Marks.{other-side, opposite-of}
 use Rattle.parts.specs.declared.Mark.{Mark}
 use Rattle.parts.specs.declared.Side.{Side}
@@ -23,9 +24,8 @@ use Rattle.search.specs.Machine.{resolve, worked, is-picked, Outcome, bottom, 
 use Rattle.search.specs.Law.{Among, Choice}
 use Rattle.search.proofs.Basics.{some-eq, none-some, some-none, other-other, not-self, mark-eq, part-eq, twice-opposite, settled-here, settled-there}
 use Rattle.search.proofs.Tally.{tally, tally-le, tally-more}
-use Rattle.search.proofs.Rows.{Names, names-true, true-names, enter-length, enter-stays, enter-comes, enter-from, leave-length, leave-from, leave-stays}
+use Rattle.search.proofs.Rows.{Names, names-true, true-names, enter-length, enter-codes, enter-stays, enter-comes, enter-from, leave-length, leave-codes, leave-from, leave-stays}
 use Rattle.search.proofs.Invariant.{Failed, Ranged, Follows, Kept, Why, Sound, weight, worth}
-use Rattle.search.proofs.Settled.{within}
 
 -- every choice that obeys meets a mark that the row names
 abbrev pub FollowsRow : (Choice → Type 0) → Row → Type 0
@@ -110,7 +110,7 @@ module _ (n : ℕ) (Ob : Choice → Type 0) (hs : Rule) (at : Reason → Option 
 
   -- a working rule: n codes, and it follows from the book
   abbrev pub Fine : Row → Type 0
-  Fine c = FollowsRow Ob c × (length c ≡ n)
+  Fine c = FollowsRow Ob c × (length c ≡ n) × (all-codes c ≡ true)
 
   -- each mark of the working rule is false under the trail, or the opposite of a hold taken off before
   abbrev pub Covered : Trail → Row → Type 0
@@ -135,7 +135,7 @@ module _ (n : ℕ) (Ob : Choice → Type 0) (hs : Rule) (at : Reason → Option 
   resolved : (r : Reason) (x : Mark) (c : Row) (t : Trail) (R : Rule) → Good R → (1 ≤ x .part) × (x .part ≤ n) → settled t (x .part) ≡ None
       → ((y : Mark) → Among y R → (y ≡ x) ⊎ Failed t y)
       → Covered (record { mark = x; kind = Forced r } ∷ t) c → Fine c → Covered t (leave (x .part) (enter c R)) × Fine (leave (x .part) (enter c R))
-  resolved r x c t R gr range op others cov (fol, len) = (
+  resolved r x c t R gr range op others cov (fol, len, codes) = (
     λ y i.
         let (k, ne) = leave-from p (enter c R) y rE i in
         elim (enter-from c R y within k) [
@@ -158,6 +158,7 @@ module _ (n : ℕ) (Ob : Choice → Type 0) (hs : Rule) (at : Reason → Option 
                 ]
           ],
       leave-length p (enter c R) ∙ (enter-length c R ∙ len),
+      leave-codes p (enter c R) (enter-codes c R codes),
     ),
   )
     where

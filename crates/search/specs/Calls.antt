@@ -3,7 +3,7 @@ use mathlib.Core.List.{List, [], _∷_, _++_}
 use mathlib.Core.Bool.{Bool, true, false, not, cond, _&&_, _||_}
 use Prim.Native.Nat.{ℕ, _+_}
 use lib.Dec.{eqb, ltb, leb}
-use lib.ListN.{replicate}
+use lib.ListN.{length, replicate}
 use Rattle.std.specs.Options.{isSome}
 use Rattle.std.specs.declared.option.Option.{Option}
 use Rattle.std.specs.declared.option.Option.the-variants.{Some, None}
@@ -15,6 +15,7 @@ use Rattle.parts.specs.declared.Side.{Side}
 use Rattle.parts.specs.declared.refusals.Refusal.{Refusal}
 use Rattle.parts.specs.declared.refusals.Refusal.the-variants.{OpenPartsDiffer, ForgettingOutOfRange, PartOutOfRange, NoSide, AlreadyHeld, NotHeld, BudgetOutOfRange, StepsOutOfRange, RowLength, NoSuchVerdict}
 use Rattle.book.specs.Meaning.{names}
+use Rattle.shelf.specs.Meaning.{Shelved}
 use Rattle.search.specs.declared.Forgetting.{Forgetting}
 use Rattle.search.specs.declared.Forgetting.the-variants.{KeepAll, Size, Relevance, Bounded, Both}
 use Rattle.search.specs.declared.Report.{Report}
@@ -39,13 +40,13 @@ in-range (Both k m) = leb k 120 && leb m 120
 abbrev pub refuses-open : ℕ → ℕ → ℕ → Forgetting → Option Refusal
 refuses-open book picker shelf forget = if-so (not (eqb book picker && eqb book shelf)) OpenPartsDiffer (if-so (not (in-range forget)) ForgettingOutOfRange None)
 
--- a session that was opened over k places: all are empty, with no holds, an empty trail and no counts
-unfoldable pub opened : ℕ → Machine
-opened k =
+-- a session that was opened with a shelf: every place is emptied, with no holds, an empty trail and no counts
+unfoldable pub opened : Shelved → Machine
+opened s =
     record {
       holds = [];
       trail = [];
-      places = replicate k None;
+      shelf = record { n = s .n; rows = replicate (length (s .rows)) None };
       last = 0;
       steps = 0;
       turns = 0;
@@ -58,7 +59,7 @@ restarted m hs =
     record {
       holds = hs;
       trail = [];
-      places = m .places;
+      shelf = m .shelf;
       last = m .last;
       steps = 0;
       turns = 0;
@@ -75,8 +76,8 @@ abbrev pub no-part : ℕ → ℕ → Bool
 no-part n p = eqb p 0 || ltb n p
 
 unfoldable pub refuses : Bench → Machine → Call → Option Refusal
-refuses b m (hold p s) = if-so (no-part (b .parts) p) PartOutOfRange (if-so (not (isSome (side-of s))) NoSide (if-so (names (m .holds) p) AlreadyHeld None))
-refuses b m (release p) = if-so (no-part (b .parts) p) PartOutOfRange (if-so (not (names (m .holds) p)) NotHeld None)
+refuses b m (hold p s) = if-so (no-part (b .book .n) p) PartOutOfRange (if-so (not (isSome (side-of s))) NoSide (if-so (names (m .holds) p) AlreadyHeld None))
+refuses b m (release p) = if-so (no-part (b .book .n) p) PartOutOfRange (if-so (not (names (m .holds) p)) NotHeld None)
 refuses b m (run-for k) = if-so (eqb k 0 || ltb 1000000 k) BudgetOutOfRange (if-so (not (is-told (m .verdict)) && ltb 50000000 (m .steps + k)) StepsOutOfRange None)
 
 -- a new hold, and the holds without a part

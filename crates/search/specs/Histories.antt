@@ -7,12 +7,12 @@ use Rattle.search.specs.declared.Forgetting.the-variants.{KeepAll, Size, Relev
 use Rattle.search.specs.declared.Told.the-variants.{Fits, NoneFits, Spent}
 use Rattle.search.specs.Calls.{hold, release, run-for}
 use Rattle.search.specs.Table.{i, o, lowest}
-use Rattle.search.specs.History.{History, Heard, to, code-of, the-choice, the-named, lesson-at, done, said, codes, nothing, refused, _↝_, ranked, histories-tell}
+use Rattle.search.specs.History.{History, Heard, to, code-of, the-choice, the-named, lesson-at, done, said, codes, nothing, refused, _↝_, benched, ranked, histories-tell}
 
 abbrev pub history-1 : History
 history-1 =
     record {
-      on = record { parts = 2; rules = (i 2 ∷ i 1 ∷ []) ∷ (o 2 ∷ []) ∷ (i 2 ∷ o 1 ∷ []) ∷ (o 1 ∷ []) ∷ (i 2 ∷ []) ∷ (i 2 ∷ i 1 ∷ []) ∷ (i 1 ∷ i 2 ∷ []) ∷ (i 1 ∷ []) ∷ (o 2 ∷ []) ∷ []; pick = lowest 1; forget = Both 3 0 };
+      on = benched 2 ((i 2 ∷ i 1 ∷ []) ∷ (o 2 ∷ []) ∷ (i 2 ∷ o 1 ∷ []) ∷ (o 1 ∷ []) ∷ (i 2 ∷ []) ∷ (i 2 ∷ i 1 ∷ []) ∷ (i 1 ∷ i 2 ∷ []) ∷ (i 1 ∷ []) ∷ (o 2 ∷ []) ∷ []) (lowest 1) (Both 3 0);
       places = 7;
       told =
           (to (run-for 1000) ↝ said NoneFits 2 1) ∷ (to (run-for 3) ↝ said NoneFits 2 1) ∷ (to (hold 1 2) ↝ done)
@@ -32,7 +32,7 @@ history-1 =
 abbrev pub history-2 : History
 history-2 =
     record {
-      on = record { parts = 5; rules = (o 3 ∷ o 4 ∷ []) ∷ (o 1 ∷ i 4 ∷ i 2 ∷ o 3 ∷ []) ∷ (o 3 ∷ i 2 ∷ o 1 ∷ o 5 ∷ []) ∷ (o 5 ∷ o 3 ∷ []) ∷ (i 3 ∷ o 4 ∷ o 5 ∷ i 2 ∷ []) ∷ (i 4 ∷ o 1 ∷ []) ∷ (o 3 ∷ i 2 ∷ []) ∷ (o 1 ∷ o 3 ∷ []) ∷ (i 4 ∷ o 5 ∷ i 2 ∷ []) ∷ (i 3 ∷ o 5 ∷ o 4 ∷ []) ∷ (o 3 ∷ []) ∷ (o 1 ∷ i 5 ∷ o 3 ∷ o 4 ∷ []) ∷ (o 1 ∷ o 5 ∷ i 4 ∷ []) ∷ (o 5 ∷ i 2 ∷ i 1 ∷ []) ∷ (i 4 ∷ o 1 ∷ []) ∷ (i 1 ∷ i 3 ∷ []) ∷ (i 3 ∷ []) ∷ (i 2 ∷ i 5 ∷ i 4 ∷ i 3 ∷ []) ∷ (i 3 ∷ i 4 ∷ i 2 ∷ []) ∷ (o 5 ∷ i 4 ∷ []) ∷ (i 5 ∷ i 2 ∷ o 3 ∷ []) ∷ (o 5 ∷ o 1 ∷ []) ∷ (i 4 ∷ []) ∷ []; pick = ranked (o 3 ∷ i 1 ∷ i 2 ∷ o 5 ∷ i 4 ∷ []); forget = Size 1 };
+      on = benched 5 ((o 3 ∷ o 4 ∷ []) ∷ (o 1 ∷ i 4 ∷ i 2 ∷ o 3 ∷ []) ∷ (o 3 ∷ i 2 ∷ o 1 ∷ o 5 ∷ []) ∷ (o 5 ∷ o 3 ∷ []) ∷ (i 3 ∷ o 4 ∷ o 5 ∷ i 2 ∷ []) ∷ (i 4 ∷ o 1 ∷ []) ∷ (o 3 ∷ i 2 ∷ []) ∷ (o 1 ∷ o 3 ∷ []) ∷ (i 4 ∷ o 5 ∷ i 2 ∷ []) ∷ (i 3 ∷ o 5 ∷ o 4 ∷ []) ∷ (o 3 ∷ []) ∷ (o 1 ∷ i 5 ∷ o 3 ∷ o 4 ∷ []) ∷ (o 1 ∷ o 5 ∷ i 4 ∷ []) ∷ (o 5 ∷ i 2 ∷ i 1 ∷ []) ∷ (i 4 ∷ o 1 ∷ []) ∷ (i 1 ∷ i 3 ∷ []) ∷ (i 3 ∷ []) ∷ (i 2 ∷ i 5 ∷ i 4 ∷ i 3 ∷ []) ∷ (i 3 ∷ i 4 ∷ i 2 ∷ []) ∷ (o 5 ∷ i 4 ∷ []) ∷ (i 5 ∷ i 2 ∷ o 3 ∷ []) ∷ (o 5 ∷ o 1 ∷ []) ∷ (i 4 ∷ []) ∷ []) (ranked (o 3 ∷ i 1 ∷ i 2 ∷ o 5 ∷ i 4 ∷ [])) (Size 1);
       places = 5;
       told =
           (to (run-for 20) ↝ said NoneFits 2 1) ∷ (to (hold 5 0) ↝ refused NoSide) ∷ (to (release 1) ↝ refused NotHeld)
@@ -52,7 +52,7 @@ history-2 =
 abbrev pub history-3 : History
 history-3 =
     record {
-      on = record { parts = 9; rules = (i 8 ∷ i 9 ∷ o 5 ∷ o 1 ∷ []) ∷ (o 7 ∷ i 1 ∷ []) ∷ (o 8 ∷ i 9 ∷ o 6 ∷ i 4 ∷ []) ∷ (o 6 ∷ o 1 ∷ o 9 ∷ i 2 ∷ []) ∷ (i 9 ∷ []) ∷ (i 2 ∷ o 6 ∷ i 7 ∷ i 3 ∷ []) ∷ (o 2 ∷ i 3 ∷ i 7 ∷ []) ∷ (o 2 ∷ []) ∷ (i 7 ∷ i 9 ∷ i 5 ∷ []) ∷ (i 2 ∷ o 1 ∷ []) ∷ (i 3 ∷ o 4 ∷ o 1 ∷ []) ∷ (o 1 ∷ o 6 ∷ []) ∷ (o 1 ∷ i 9 ∷ o 8 ∷ []) ∷ (i 2 ∷ []) ∷ (o 3 ∷ o 4 ∷ o 8 ∷ i 2 ∷ []) ∷ (i 2 ∷ []) ∷ (i 5 ∷ i 9 ∷ o 6 ∷ i 2 ∷ []) ∷ (i 8 ∷ []) ∷ (i 8 ∷ i 9 ∷ o 5 ∷ []) ∷ (i 9 ∷ i 1 ∷ i 5 ∷ []) ∷ (o 5 ∷ o 3 ∷ i 6 ∷ i 4 ∷ []) ∷ (i 2 ∷ []) ∷ (o 2 ∷ []) ∷ (i 7 ∷ i 2 ∷ o 5 ∷ i 1 ∷ []) ∷ (i 3 ∷ o 6 ∷ i 8 ∷ []) ∷ (o 6 ∷ o 2 ∷ o 3 ∷ o 8 ∷ []) ∷ (o 5 ∷ i 6 ∷ o 1 ∷ []) ∷ (i 3 ∷ []) ∷ (i 8 ∷ o 6 ∷ o 1 ∷ []) ∷ (o 7 ∷ []) ∷ (i 4 ∷ []) ∷ (i 5 ∷ []) ∷ (i 5 ∷ i 3 ∷ o 4 ∷ o 6 ∷ []) ∷ []; pick = lowest 1; forget = Both 2 2 };
+      on = benched 9 ((i 8 ∷ i 9 ∷ o 5 ∷ o 1 ∷ []) ∷ (o 7 ∷ i 1 ∷ []) ∷ (o 8 ∷ i 9 ∷ o 6 ∷ i 4 ∷ []) ∷ (o 6 ∷ o 1 ∷ o 9 ∷ i 2 ∷ []) ∷ (i 9 ∷ []) ∷ (i 2 ∷ o 6 ∷ i 7 ∷ i 3 ∷ []) ∷ (o 2 ∷ i 3 ∷ i 7 ∷ []) ∷ (o 2 ∷ []) ∷ (i 7 ∷ i 9 ∷ i 5 ∷ []) ∷ (i 2 ∷ o 1 ∷ []) ∷ (i 3 ∷ o 4 ∷ o 1 ∷ []) ∷ (o 1 ∷ o 6 ∷ []) ∷ (o 1 ∷ i 9 ∷ o 8 ∷ []) ∷ (i 2 ∷ []) ∷ (o 3 ∷ o 4 ∷ o 8 ∷ i 2 ∷ []) ∷ (i 2 ∷ []) ∷ (i 5 ∷ i 9 ∷ o 6 ∷ i 2 ∷ []) ∷ (i 8 ∷ []) ∷ (i 8 ∷ i 9 ∷ o 5 ∷ []) ∷ (i 9 ∷ i 1 ∷ i 5 ∷ []) ∷ (o 5 ∷ o 3 ∷ i 6 ∷ i 4 ∷ []) ∷ (i 2 ∷ []) ∷ (o 2 ∷ []) ∷ (i 7 ∷ i 2 ∷ o 5 ∷ i 1 ∷ []) ∷ (i 3 ∷ o 6 ∷ i 8 ∷ []) ∷ (o 6 ∷ o 2 ∷ o 3 ∷ o 8 ∷ []) ∷ (o 5 ∷ i 6 ∷ o 1 ∷ []) ∷ (i 3 ∷ []) ∷ (i 8 ∷ o 6 ∷ o 1 ∷ []) ∷ (o 7 ∷ []) ∷ (i 4 ∷ []) ∷ (i 5 ∷ []) ∷ (i 5 ∷ i 3 ∷ o 4 ∷ o 6 ∷ []) ∷ []) (lowest 1) (Both 2 2);
       places = 11;
       told =
           (to (run-for 1000) ↝ said NoneFits 3 1) ∷ (to (hold 6 2) ↝ done) ∷ (to (hold 10 0) ↝ refused PartOutOfRange)
@@ -72,7 +72,7 @@ history-3 =
 abbrev pub history-4 : History
 history-4 =
     record {
-      on = record { parts = 2; rules = (o 1 ∷ i 2 ∷ []) ∷ (i 1 ∷ o 2 ∷ []) ∷ (i 1 ∷ o 2 ∷ []) ∷ (i 2 ∷ []) ∷ (i 1 ∷ []) ∷ (o 2 ∷ o 1 ∷ []) ∷ (o 1 ∷ []) ∷ (i 2 ∷ o 1 ∷ []) ∷ (o 2 ∷ i 1 ∷ []) ∷ []; pick = lowest 1; forget = KeepAll };
+      on = benched 2 ((o 1 ∷ i 2 ∷ []) ∷ (i 1 ∷ o 2 ∷ []) ∷ (i 1 ∷ o 2 ∷ []) ∷ (i 2 ∷ []) ∷ (i 1 ∷ []) ∷ (o 2 ∷ o 1 ∷ []) ∷ (o 1 ∷ []) ∷ (i 2 ∷ o 1 ∷ []) ∷ (o 2 ∷ i 1 ∷ []) ∷ []) (lowest 1) KeepAll;
       places = 3;
       told =
           (to (run-for 7) ↝ said NoneFits 3 1) ∷ (to (run-for 2) ↝ said NoneFits 3 1) ∷ (to (run-for 1) ↝ said NoneFits 3 1)
@@ -89,7 +89,7 @@ history-4 =
 abbrev pub history-5 : History
 history-5 =
     record {
-      on = record { parts = 4; rules = (i 3 ∷ []) ∷ (i 2 ∷ o 1 ∷ []) ∷ (i 2 ∷ []) ∷ (i 1 ∷ o 2 ∷ []) ∷ (i 4 ∷ o 2 ∷ []) ∷ (o 1 ∷ o 2 ∷ o 3 ∷ []) ∷ (i 4 ∷ o 1 ∷ i 3 ∷ o 2 ∷ []) ∷ (i 1 ∷ o 3 ∷ i 4 ∷ []) ∷ (o 2 ∷ o 4 ∷ []) ∷ (i 1 ∷ o 2 ∷ o 4 ∷ o 3 ∷ []) ∷ (i 4 ∷ []) ∷ (i 1 ∷ []) ∷ (o 4 ∷ o 3 ∷ i 2 ∷ []) ∷ (o 1 ∷ o 4 ∷ []) ∷ (o 4 ∷ o 2 ∷ []) ∷ []; pick = ranked (o 3 ∷ o 2 ∷ o 1 ∷ i 4 ∷ []); forget = Bounded 2 };
+      on = benched 4 ((i 3 ∷ []) ∷ (i 2 ∷ o 1 ∷ []) ∷ (i 2 ∷ []) ∷ (i 1 ∷ o 2 ∷ []) ∷ (i 4 ∷ o 2 ∷ []) ∷ (o 1 ∷ o 2 ∷ o 3 ∷ []) ∷ (i 4 ∷ o 1 ∷ i 3 ∷ o 2 ∷ []) ∷ (i 1 ∷ o 3 ∷ i 4 ∷ []) ∷ (o 2 ∷ o 4 ∷ []) ∷ (i 1 ∷ o 2 ∷ o 4 ∷ o 3 ∷ []) ∷ (i 4 ∷ []) ∷ (i 1 ∷ []) ∷ (o 4 ∷ o 3 ∷ i 2 ∷ []) ∷ (o 1 ∷ o 4 ∷ []) ∷ (o 4 ∷ o 2 ∷ []) ∷ []) (ranked (o 3 ∷ o 2 ∷ o 1 ∷ i 4 ∷ [])) (Bounded 2);
       places = 5;
       told =
           (to (release 0) ↝ refused PartOutOfRange) ∷ (to (release 0) ↝ refused PartOutOfRange) ∷ (the-choice ↝ refused NoSuchVerdict)
@@ -109,7 +109,7 @@ history-5 =
 abbrev pub history-6 : History
 history-6 =
     record {
-      on = record { parts = 8; rules = (i 8 ∷ []) ∷ (o 3 ∷ o 4 ∷ i 6 ∷ o 1 ∷ []) ∷ (o 2 ∷ []) ∷ (i 8 ∷ []) ∷ (o 2 ∷ []) ∷ (o 7 ∷ i 1 ∷ o 5 ∷ []) ∷ (o 6 ∷ i 1 ∷ i 7 ∷ []) ∷ (i 6 ∷ o 3 ∷ o 4 ∷ i 5 ∷ []) ∷ (o 8 ∷ o 6 ∷ []) ∷ (i 3 ∷ []) ∷ (i 2 ∷ o 3 ∷ []) ∷ (i 5 ∷ i 3 ∷ []) ∷ (i 2 ∷ []) ∷ (i 8 ∷ i 2 ∷ i 7 ∷ i 6 ∷ []) ∷ (i 3 ∷ o 7 ∷ []) ∷ (o 6 ∷ i 7 ∷ []) ∷ (o 4 ∷ o 8 ∷ i 2 ∷ o 5 ∷ []) ∷ (i 7 ∷ i 8 ∷ []) ∷ (o 1 ∷ []) ∷ (i 5 ∷ i 7 ∷ o 2 ∷ []) ∷ (o 2 ∷ o 8 ∷ i 4 ∷ []) ∷ (o 1 ∷ o 6 ∷ []) ∷ (i 4 ∷ o 2 ∷ i 6 ∷ []) ∷ (o 7 ∷ i 1 ∷ o 5 ∷ []) ∷ (i 2 ∷ []) ∷ (o 5 ∷ i 2 ∷ []) ∷ (o 6 ∷ o 3 ∷ i 1 ∷ []) ∷ (o 8 ∷ o 2 ∷ []) ∷ (i 4 ∷ []) ∷ (o 7 ∷ []) ∷ []; pick = ranked (i 6 ∷ o 4 ∷ i 8 ∷ o 7 ∷ o 2 ∷ i 1 ∷ i 5 ∷ o 3 ∷ []); forget = Bounded 4 };
+      on = benched 8 ((i 8 ∷ []) ∷ (o 3 ∷ o 4 ∷ i 6 ∷ o 1 ∷ []) ∷ (o 2 ∷ []) ∷ (i 8 ∷ []) ∷ (o 2 ∷ []) ∷ (o 7 ∷ i 1 ∷ o 5 ∷ []) ∷ (o 6 ∷ i 1 ∷ i 7 ∷ []) ∷ (i 6 ∷ o 3 ∷ o 4 ∷ i 5 ∷ []) ∷ (o 8 ∷ o 6 ∷ []) ∷ (i 3 ∷ []) ∷ (i 2 ∷ o 3 ∷ []) ∷ (i 5 ∷ i 3 ∷ []) ∷ (i 2 ∷ []) ∷ (i 8 ∷ i 2 ∷ i 7 ∷ i 6 ∷ []) ∷ (i 3 ∷ o 7 ∷ []) ∷ (o 6 ∷ i 7 ∷ []) ∷ (o 4 ∷ o 8 ∷ i 2 ∷ o 5 ∷ []) ∷ (i 7 ∷ i 8 ∷ []) ∷ (o 1 ∷ []) ∷ (i 5 ∷ i 7 ∷ o 2 ∷ []) ∷ (o 2 ∷ o 8 ∷ i 4 ∷ []) ∷ (o 1 ∷ o 6 ∷ []) ∷ (i 4 ∷ o 2 ∷ i 6 ∷ []) ∷ (o 7 ∷ i 1 ∷ o 5 ∷ []) ∷ (i 2 ∷ []) ∷ (o 5 ∷ i 2 ∷ []) ∷ (o 6 ∷ o 3 ∷ i 1 ∷ []) ∷ (o 8 ∷ o 2 ∷ []) ∷ (i 4 ∷ []) ∷ (o 7 ∷ []) ∷ []) (ranked (i 6 ∷ o 4 ∷ i 8 ∷ o 7 ∷ o 2 ∷ i 1 ∷ i 5 ∷ o 3 ∷ [])) (Bounded 4);
       places = 8;
       told =
           (to (run-for 7) ↝ said NoneFits 3 1) ∷ (to (run-for 1000001) ↝ refused BudgetOutOfRange) ∷ (to (hold 7 2) ↝ done)
@@ -126,7 +126,7 @@ history-6 =
 abbrev pub history-7 : History
 history-7 =
     record {
-      on = record { parts = 5; rules = (i 1 ∷ o 4 ∷ i 5 ∷ []) ∷ (o 5 ∷ []) ∷ (o 1 ∷ o 4 ∷ []) ∷ (o 1 ∷ i 3 ∷ i 5 ∷ i 4 ∷ []) ∷ (i 2 ∷ i 3 ∷ []) ∷ (o 4 ∷ o 1 ∷ []) ∷ (o 4 ∷ []) ∷ (o 4 ∷ i 2 ∷ []) ∷ (o 1 ∷ []) ∷ (o 1 ∷ i 4 ∷ []) ∷ (o 2 ∷ i 3 ∷ o 1 ∷ o 5 ∷ []) ∷ (o 3 ∷ i 1 ∷ o 4 ∷ i 2 ∷ []) ∷ []; pick = lowest 1; forget = KeepAll };
+      on = benched 5 ((i 1 ∷ o 4 ∷ i 5 ∷ []) ∷ (o 5 ∷ []) ∷ (o 1 ∷ o 4 ∷ []) ∷ (o 1 ∷ i 3 ∷ i 5 ∷ i 4 ∷ []) ∷ (i 2 ∷ i 3 ∷ []) ∷ (o 4 ∷ o 1 ∷ []) ∷ (o 4 ∷ []) ∷ (o 4 ∷ i 2 ∷ []) ∷ (o 1 ∷ []) ∷ (o 1 ∷ i 4 ∷ []) ∷ (o 2 ∷ i 3 ∷ o 1 ∷ o 5 ∷ []) ∷ (o 3 ∷ i 1 ∷ o 4 ∷ i 2 ∷ []) ∷ []) (lowest 1) KeepAll;
       places = 6;
       told =
           (the-named ↝ refused NoSuchVerdict) ∷ (the-named ↝ refused NoSuchVerdict) ∷ (to (hold 0 3) ↝ refused PartOutOfRange)
@@ -146,7 +146,7 @@ history-7 =
 abbrev pub history-8 : History
 history-8 =
     record {
-      on = record { parts = 4; rules = (i 1 ∷ []) ∷ (o 2 ∷ i 4 ∷ []) ∷ (i 4 ∷ o 1 ∷ i 2 ∷ []) ∷ (i 3 ∷ i 2 ∷ i 1 ∷ []) ∷ (o 3 ∷ o 2 ∷ o 1 ∷ []) ∷ (i 4 ∷ o 3 ∷ []) ∷ (o 3 ∷ i 1 ∷ o 2 ∷ o 4 ∷ []) ∷ (o 4 ∷ []) ∷ []; pick = ranked (o 1 ∷ i 4 ∷ o 3 ∷ i 2 ∷ []); forget = KeepAll };
+      on = benched 4 ((i 1 ∷ []) ∷ (o 2 ∷ i 4 ∷ []) ∷ (i 4 ∷ o 1 ∷ i 2 ∷ []) ∷ (i 3 ∷ i 2 ∷ i 1 ∷ []) ∷ (o 3 ∷ o 2 ∷ o 1 ∷ []) ∷ (i 4 ∷ o 3 ∷ []) ∷ (o 3 ∷ i 1 ∷ o 2 ∷ o 4 ∷ []) ∷ (o 4 ∷ []) ∷ []) (ranked (o 1 ∷ i 4 ∷ o 3 ∷ i 2 ∷ [])) KeepAll;
       places = 9;
       told =
           (the-choice ↝ refused NoSuchVerdict) ∷ (to (release 3) ↝ refused NotHeld) ∷ (to (release 5) ↝ refused PartOutOfRange)
@@ -167,7 +167,7 @@ history-8 =
 abbrev pub history-9 : History
 history-9 =
     record {
-      on = record { parts = 6; rules = (i 1 ∷ o 3 ∷ o 2 ∷ i 6 ∷ []) ∷ (o 2 ∷ []) ∷ (i 5 ∷ i 3 ∷ i 4 ∷ i 2 ∷ []) ∷ ([]) ∷ []; pick = lowest 1; forget = Bounded 1 };
+      on = benched 6 ((i 1 ∷ o 3 ∷ o 2 ∷ i 6 ∷ []) ∷ (o 2 ∷ []) ∷ (i 5 ∷ i 3 ∷ i 4 ∷ i 2 ∷ []) ∷ ([]) ∷ []) (lowest 1) (Bounded 1);
       places = 10;
       told =
           (to (hold 6 1) ↝ done) ∷ (to (run-for 1) ↝ said NoneFits 1 1) ∷ (to (hold 2 2) ↝ done)
@@ -183,7 +183,7 @@ history-9 =
 abbrev pub history-10 : History
 history-10 =
     record {
-      on = record { parts = 5; rules = (i 2 ∷ i 5 ∷ o 4 ∷ []) ∷ (i 3 ∷ o 5 ∷ o 2 ∷ []) ∷ (o 2 ∷ []) ∷ (i 3 ∷ o 2 ∷ i 5 ∷ o 4 ∷ []) ∷ (i 3 ∷ i 1 ∷ o 4 ∷ []) ∷ (i 1 ∷ o 5 ∷ []) ∷ (o 4 ∷ o 2 ∷ o 3 ∷ i 5 ∷ []) ∷ (i 4 ∷ i 3 ∷ i 1 ∷ o 5 ∷ []) ∷ (i 1 ∷ i 5 ∷ i 4 ∷ i 3 ∷ []) ∷ (i 3 ∷ o 5 ∷ []) ∷ (i 1 ∷ []) ∷ (i 5 ∷ i 1 ∷ o 3 ∷ []) ∷ (i 4 ∷ []) ∷ (i 2 ∷ o 3 ∷ []) ∷ (o 4 ∷ o 2 ∷ []) ∷ (i 4 ∷ o 1 ∷ o 2 ∷ []) ∷ (i 5 ∷ i 1 ∷ o 2 ∷ []) ∷ (o 5 ∷ i 1 ∷ i 3 ∷ i 4 ∷ []) ∷ (o 3 ∷ []) ∷ (i 3 ∷ o 4 ∷ o 5 ∷ i 1 ∷ []) ∷ (i 4 ∷ o 3 ∷ []) ∷ (i 4 ∷ []) ∷ []; pick = ranked (i 2 ∷ i 1 ∷ i 5 ∷ i 4 ∷ i 3 ∷ []); forget = Both 2 3 };
+      on = benched 5 ((i 2 ∷ i 5 ∷ o 4 ∷ []) ∷ (i 3 ∷ o 5 ∷ o 2 ∷ []) ∷ (o 2 ∷ []) ∷ (i 3 ∷ o 2 ∷ i 5 ∷ o 4 ∷ []) ∷ (i 3 ∷ i 1 ∷ o 4 ∷ []) ∷ (i 1 ∷ o 5 ∷ []) ∷ (o 4 ∷ o 2 ∷ o 3 ∷ i 5 ∷ []) ∷ (i 4 ∷ i 3 ∷ i 1 ∷ o 5 ∷ []) ∷ (i 1 ∷ i 5 ∷ i 4 ∷ i 3 ∷ []) ∷ (i 3 ∷ o 5 ∷ []) ∷ (i 1 ∷ []) ∷ (i 5 ∷ i 1 ∷ o 3 ∷ []) ∷ (i 4 ∷ []) ∷ (i 2 ∷ o 3 ∷ []) ∷ (o 4 ∷ o 2 ∷ []) ∷ (i 4 ∷ o 1 ∷ o 2 ∷ []) ∷ (i 5 ∷ i 1 ∷ o 2 ∷ []) ∷ (o 5 ∷ i 1 ∷ i 3 ∷ i 4 ∷ []) ∷ (o 3 ∷ []) ∷ (i 3 ∷ o 4 ∷ o 5 ∷ i 1 ∷ []) ∷ (i 4 ∷ o 3 ∷ []) ∷ (i 4 ∷ []) ∷ []) (ranked (i 2 ∷ i 1 ∷ i 5 ∷ i 4 ∷ i 3 ∷ [])) (Both 2 3);
       places = 10;
       told =
           (the-named ↝ refused NoSuchVerdict) ∷ (to (release 5) ↝ refused NotHeld) ∷ (to (hold 5 0) ↝ refused NoSide)
@@ -203,7 +203,7 @@ history-10 =
 abbrev pub history-11 : History
 history-11 =
     record {
-      on = record { parts = 4; rules = (i 1 ∷ i 4 ∷ []) ∷ (i 4 ∷ []) ∷ (i 1 ∷ o 4 ∷ o 3 ∷ i 2 ∷ []) ∷ (o 3 ∷ i 1 ∷ i 4 ∷ o 2 ∷ []) ∷ (i 1 ∷ i 3 ∷ []) ∷ (i 3 ∷ i 4 ∷ []) ∷ (o 3 ∷ []) ∷ (o 1 ∷ o 2 ∷ []) ∷ (o 3 ∷ i 2 ∷ []) ∷ (o 4 ∷ []) ∷ (i 2 ∷ i 3 ∷ []) ∷ []; pick = ranked (o 3 ∷ o 4 ∷ o 2 ∷ o 1 ∷ []); forget = KeepAll };
+      on = benched 4 ((i 1 ∷ i 4 ∷ []) ∷ (i 4 ∷ []) ∷ (i 1 ∷ o 4 ∷ o 3 ∷ i 2 ∷ []) ∷ (o 3 ∷ i 1 ∷ i 4 ∷ o 2 ∷ []) ∷ (i 1 ∷ i 3 ∷ []) ∷ (i 3 ∷ i 4 ∷ []) ∷ (o 3 ∷ []) ∷ (o 1 ∷ o 2 ∷ []) ∷ (o 3 ∷ i 2 ∷ []) ∷ (o 4 ∷ []) ∷ (i 2 ∷ i 3 ∷ []) ∷ []) (ranked (o 3 ∷ o 4 ∷ o 2 ∷ o 1 ∷ [])) KeepAll;
       places = 6;
       told =
           (to (release 0) ↝ refused PartOutOfRange) ∷ (the-choice ↝ refused NoSuchVerdict) ∷ (to (hold 4 2) ↝ done)
@@ -223,7 +223,7 @@ history-11 =
 abbrev pub history-12 : History
 history-12 =
     record {
-      on = record { parts = 3; rules = (o 2 ∷ o 1 ∷ o 3 ∷ []) ∷ (o 1 ∷ []) ∷ (i 2 ∷ []) ∷ (i 2 ∷ []) ∷ (o 3 ∷ o 1 ∷ o 2 ∷ []) ∷ (o 1 ∷ o 2 ∷ []) ∷ (i 1 ∷ []) ∷ (i 3 ∷ o 1 ∷ []) ∷ (o 3 ∷ i 2 ∷ o 1 ∷ []) ∷ (i 1 ∷ o 2 ∷ []) ∷ (o 2 ∷ i 1 ∷ o 3 ∷ []) ∷ []; pick = lowest 1; forget = Relevance 0 };
+      on = benched 3 ((o 2 ∷ o 1 ∷ o 3 ∷ []) ∷ (o 1 ∷ []) ∷ (i 2 ∷ []) ∷ (i 2 ∷ []) ∷ (o 3 ∷ o 1 ∷ o 2 ∷ []) ∷ (o 1 ∷ o 2 ∷ []) ∷ (i 1 ∷ []) ∷ (i 3 ∷ o 1 ∷ []) ∷ (o 3 ∷ i 2 ∷ o 1 ∷ []) ∷ (i 1 ∷ o 2 ∷ []) ∷ (o 2 ∷ i 1 ∷ o 3 ∷ []) ∷ []) (lowest 1) (Relevance 0);
       places = 8;
       told =
           (to (run-for 3) ↝ said NoneFits 2 1) ∷ (to (release 0) ↝ refused PartOutOfRange) ∷ (code-of 4 ↝ refused PartOutOfRange)

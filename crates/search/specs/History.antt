@@ -3,6 +3,7 @@ use mathlib.Core.List.{List, [], _∷_, map}
 use mathlib.Core.Bool.{Bool, true, false, cond}
 use mathlib.Core.Path.{_≡_}
 use Prim.Native.Nat.{ℕ, zero, suc}
+use lib.ListN.{replicate}
 use Rattle.std.specs.declared.option.Option.{Option}
 use Rattle.std.specs.declared.option.Option.the-variants.{Some, None}
 use Rattle.std.specs.declared.result.Result.{Result}
@@ -10,6 +11,9 @@ use Rattle.std.specs.declared.result.Result.the-variants.{Ok, Err}
 use Rattle.parts.specs.declared.Mark.{Mark}
 use Rattle.parts.specs.declared.refusals.Refusal.{Refusal}
 use Rattle.parts.specs.Lists.{at-place}
+use Rattle.book.specs.Meaning.{Rule}
+use Rattle.shelf.specs.Meaning.{Shelved}
+use Rattle.search.specs.declared.Forgetting.{Forgetting}
 use Rattle.search.specs.declared.Report.{Report}
 use Rattle.search.specs.declared.Told.{Told}
 use Rattle.search.specs.Trail.{Row}
@@ -40,6 +44,10 @@ infix 4 _↝_
 abbrev pub _↝_ : Ask → Heard → Line
 _↝_ a h = record { ask = a; reply = h }
 
+-- a book of n parts, a picker and a forgetting rule
+abbrev pub benched : ℕ → List Rule → (Row → Mark) → Forgetting → Bench
+benched n rs pick f = record { book = record { n = n; rules = rs }; picker = record { n = n; choose = pick }; forget = f }
+
 pub record History : Type 0 where
   pub on : Bench
   pub places : ℕ
@@ -61,10 +69,10 @@ called b m (run-for k) = heard-as (λ (r : Report). said (r .told) (r .steps) (r
 
 abbrev pub heard : Bench → Machine → Ask → Heard
 heard b m (to c) = called b m c
-heard b m (code-of p) = heard-as (λ c. codes (c ∷ [])) (settled-code (b .parts) m p)
-heard b m the-choice = heard-as codes (choice-row (b .parts) m (b .parts))
-heard b m the-named = heard-as codes (named-row (b .parts) m (b .parts))
-heard b m (lesson-at i) = stood (at-place (m .places) i)
+heard b m (code-of p) = heard-as (λ c. codes (c ∷ [])) (settled-code (b .book .n) m p)
+heard b m the-choice = heard-as codes (choice-row (b .book .n) m (b .book .n))
+heard b m the-named = heard-as codes (named-row (b .book .n) m (b .book .n))
+heard b m (lesson-at i) = stood (at-place (m .shelf .rows) i)
 
 -- a question changes nothing
 abbrev pub after : Bench → Machine → Ask → Machine
@@ -87,5 +95,9 @@ unfoldable pub ranked : List Mark → Row → Mark
 ranked [] r = o 1
 ranked (m ∷ ms) r = cond (is-open (at-place r (m .part))) m (ranked ms r)
 
+-- a shelf of as many empty places as the history has
+abbrev pub shelf-of : History → Shelved
+shelf-of h = record { n = h .on .book .n; rows = replicate (h .places) None }
+
 abbrev pub histories-tell : List History → Type 0
-histories-tell hs = map (λ (h : History). replies (h .on) (opened (h .places)) (h .told)) hs ≡ map (λ (h : History). map (λ (l : Line). l .reply) (h .told)) hs
+histories-tell hs = map (λ (h : History). replies (h .on) (opened (shelf-of h)) (h .told)) hs ≡ map (λ (h : History). map (λ (l : Line). l .reply) (h .told)) hs

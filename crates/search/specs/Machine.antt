@@ -3,7 +3,7 @@ use mathlib.Core.List.{List, [], _∷_, map, _++_}
 use mathlib.Core.Bool.{Bool, true, false, not, cond, _&&_, _||_}
 use Prim.Native.Nat.{ℕ, zero, suc, _-_}
 use lib.Dec.{eqb, ltb, leb}
-use lib.ListN.{length, set, replicate}
+use lib.ListN.{length, replicate}
 use Rattle.std.specs.Options.{mapped}
 use Rattle.std.specs.declared.option.Option.{Option}
 use Rattle.std.specs.declared.option.Option.the-variants.{Some, None}
@@ -11,7 +11,9 @@ use Rattle.parts.specs.Marks.{opposite-of}
 use Rattle.parts.specs.Rows.{row-marks}
 use Rattle.parts.specs.declared.Mark.{Mark}
 use Rattle.parts.specs.Lists.{at-place, then-at}
-use Rattle.book.specs.Meaning.{Rule}
+use Rattle.book.specs.Meaning.{Rule, Rules}
+use Rattle.picker.specs.Meaning.{Picks, picked}
+use Rattle.shelf.specs.Meaning.{Shelved, written}
 use Rattle.search.specs.declared.Entry.{Entry}
 use Rattle.search.specs.declared.Forgetting.{Forgetting}
 use Rattle.search.specs.declared.Forgetting.the-variants.{KeepAll, Size, Relevance, Bounded, Both}
@@ -21,11 +23,10 @@ use Rattle.search.specs.declared.Reason.{Reason}
 use Rattle.search.specs.declared.Reason.the-variants.{Book, Shelf}
 use Rattle.search.specs.Trail.{Trail, Row, from, row, Truth, is-true, is-false, is-open, truth, State, broken, pressing, quiet, state, names-mark, enter, leave}
 
--- What a session is opened with: n parts, the book's rules, the picker's choice for each row that it is asked, the forgetting rule.
+-- What a session is opened with: what the book means, what the picker means, and the forgetting rule.
 pub record Bench : Type 0 where
-  pub parts : ℕ
-  pub rules : List Rule
-  pub pick : Row → Mark
+  pub book : Rules
+  pub picker : Picks
   pub forget : Forgetting
 
 -- A verdict, once one stands; "none fits" names holds by a row, 0 elsewhere.
@@ -38,11 +39,11 @@ pub data Verdict : Type 0 where
 abbrev pub Places : Type 0
 Places = List (Option Row)
 
--- A session's state: the holds in the order in which they were accepted, the trail, the shelf's places, the place last written, the counts, the verdict.
+-- A session's state: the holds in the order in which they were accepted, the trail, what the shelf means, the place last written, the counts, the verdict.
 pub record Machine : Type 0 where
   pub holds : List Mark
   pub trail : Trail
-  pub places : Places
+  pub shelf : Shelved
   pub last : ℕ
   pub steps : ℕ
   pub turns : ℕ
@@ -136,14 +137,14 @@ all-settled (suc k ∷ cs) = all-settled cs
 
 unfoldable pub look : Bench → Machine → Move
 look b m =
-    let at : Reason → State = λ r. state-of (m .trail) (rule-at (b .rules) (m .places) r) in
-    let all : List Reason = reasons (b .rules) (m .places) in
+    let at : Reason → State = λ r. state-of (m .trail) (rule-at (b .book .rules) (m .shelf .rows) r) in
+    let all : List Reason = reasons (b .book .rules) (m .shelf .rows) in
     choose
     (first (λ r. if-broken r (at r)) all)
     (first (λ r. if-pressing r (at r)) all)
     (first (λ h. if-crossed (reason-of (m .trail) (h .part)) (truth (m .trail) h)) (m .holds))
     (first (λ h. if-open h (truth (m .trail) h)) (m .holds))
-    (all-settled (row (b .parts) (m .trail)))
+    (all-settled (row (b .book .n) (m .trail)))
 
 -- THE TURN takes entries off the trail from the newest. The working rule is kept as the row of the marks that it names.
 -- A forced part is resolved: the marks of the working rule and of the reason, each once, without the two marks of that part.
@@ -244,6 +245,9 @@ unfoldable pub sweep : Forgetting → Trail → ℕ → Places → Places
 sweep f t i [] = []
 sweep f t i (p ∷ s) = cleared (lets f t i p) p ∷ sweep f t (suc i) s
 
+unfoldable pub swept : Forgetting → Trail → Shelved → Shelved
+swept f t s = record { n = s .n; rows = sweep f t 1 (s .rows) }
+
 -- the holds whose opposites are in the working rule, as a row
 unfoldable pub named-holds : ℕ → Row → List Mark → Row
 named-holds n c [] = replicate n 0
@@ -255,7 +259,7 @@ pushed m x k =
     record {
       holds = m .holds;
       trail = record { mark = x; kind = k } ∷ m .trail;
-      places = m .places;
+      shelf = m .shelf;
       last = m .last;
       steps = suc (m .steps);
       turns = m .turns;
@@ -268,22 +272,35 @@ turned b m (bottom c) =
     record {
       holds = m .holds;
       trail = [];
-      places = m .places;
+      shelf = m .shelf;
       last = m .last;
       steps = suc (m .steps);
       turns = suc (m .turns);
-      verdict = none-fits (named-holds (b .parts) c (m .holds));
+      verdict = none-fits (named-holds (b .book .n) c (m .holds));
     }
 turned b m (stop x c t) =
-    let i : ℕ = next-place (m .places) (m .last) t in
+    let i : ℕ = next-place (m .shelf .rows) (m .last) t in
     let t′ : Trail = record { mark = opposite-of x; kind = Forced (Shelf i) } ∷ t in
     record {
       holds = m .holds;
       trail = t′;
-      places = sweep (b .forget) t′ 1 (set (m .places) (i - 1) (Some c));
+      shelf = swept (b .forget) t′ (written (m .shelf) i c);
       last = i;
       steps = suc (m .steps);
       turns = suc (m .turns);
+      verdict = working;
+    }
+
+-- a step that finds nothing to do
+unfoldable pub idle : Machine → Machine
+idle m =
+    record {
+      holds = m .holds;
+      trail = m .trail;
+      shelf = m .shelf;
+      last = m .last;
+      steps = suc (m .steps);
+      turns = m .turns;
       verdict = working;
     }
 
@@ -292,12 +309,17 @@ fitted m =
     record {
       holds = m .holds;
       trail = m .trail;
-      places = m .places;
+      shelf = m .shelf;
       last = m .last;
       steps = suc (m .steps);
       turns = m .turns;
       verdict = fits;
     }
+
+-- the picker was asked: its mark is settled (a picker that fits the book always has one)
+abbrev pub asked : Machine → Option Mark → Machine
+asked m None = idle m
+asked m (Some x) = pushed m x Picked
 
 abbrev pub marks-at : Option Rule → Rule
 marks-at None = []
@@ -305,12 +327,12 @@ marks-at (Some r) = r
 
 unfoldable pub act : Bench → Machine → Move → Machine
 act b m (turn-on r) =
-    let at : Reason → Option Rule = rule-at (b .rules) (m .places) in
-    turned b m (turn at (enter (replicate (b .parts) 0) (marks-at (at r))) (m .trail))
+    let at : Reason → Option Rule = rule-at (b .book .rules) (m .shelf .rows) in
+    turned b m (turn at (enter (replicate (b .book .n) 0) (marks-at (at r))) (m .trail))
 act b m (force p) = pushed m (p .mark) (Forced (p .by))
 act b m (settle h) = pushed m h Held
 act b m fit = fitted m
-act b m ask = pushed m (b .pick (row (b .parts) (m .trail))) Picked
+act b m ask = asked m (picked (b .picker) (row (b .book .n) (m .trail)))
 
 unfoldable pub step : Bench → Machine → Machine
 step b m = act b m (look b m)

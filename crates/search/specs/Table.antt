@@ -26,7 +26,11 @@ lowest p [] = o p
 lowest p (c ∷ cs) = elim c [ zero ↦ o p | suc k ↦ lowest (suc p) cs ]
 
 abbrev pub bench : ℕ → List Rule → Forgetting → Bench
-bench n rs f = record { parts = n; rules = rs; pick = lowest 1; forget = f }
+bench n rs f = record { book = record { n = n; rules = rs }; picker = record { n = n; choose = lowest 1 }; forget = f }
+
+-- four empty places
+abbrev pub clear : Places
+clear = None ∷ None ∷ None ∷ None ∷ []
 
 -- what is seen after the calls
 pub record Answer : Type 0 where
@@ -38,8 +42,8 @@ pub record Answer : Type 0 where
 
 unfoldable pub answer : Bench → List Call → Answer
 answer b cs =
-    let m : Machine = calls b cs (opened 4) in
-    record { verdict = m .verdict; choice = row (b .parts) (m .trail); steps = m .steps; turns = m .turns; shelf = m .places }
+    let m : Machine = calls b cs (opened (record { n = b .book .n; rows = clear })) in
+    record { verdict = m .verdict; choice = row (b .book .n) (m .trail); steps = m .steps; turns = m .turns; shelf = m .shelf .rows }
 
 abbrev pub chain : List Rule
 chain = (i 1 ∷ i 2 ∷ []) ∷ (o 1 ∷ i 3 ∷ []) ∷ (o 2 ∷ i 3 ∷ []) ∷ []
@@ -54,9 +58,6 @@ pub record Case : Type 0 where
 
 abbrev pub gave : Verdict → Row → ℕ → ℕ → Places → Answer
 gave v r s t p = record { verdict = v; choice = r; steps = s; turns = t; shelf = p }
-
-abbrev pub clear : Places
-clear = None ∷ None ∷ None ∷ None ∷ []
 
 -- the lessons "1 3" and "1" over four parts
 abbrev pub l13 : Option Row

@@ -1,3 +1,4 @@
 pub mod Scans
 pub mod Listing
 pub mod Stacking
+pub mod Agreeing

@@ -53,7 +53,7 @@ settled-names (x ∷ t) p e =
     (cases-eq (x .mark .part) p)
 
 -- the row of n parts, one by one
-row-at : (n : ℕ) (t : List Entry) (p : ℕ) → p < n → getD (row n t) p 0 ≡ code (settled t (1 + p))
+pub row-at : (n : ℕ) (t : List Entry) (p : ℕ) → p < n → getD (row n t) p 0 ≡ code (settled t (1 + p))
 unfolding row from
 row-at n t p h = by 1 n p h
   where

@@ -18,7 +18,7 @@ returns-then-width-eq0 c =
     ]
 
 pub add-rules : need.add-rules
-add-rules c = omega (arith, c .loop-width .inv .1, pairs-few (getD (c .args .widths .now) (c .loop-width .width-index) 0) (c .if-width-gt-MOST-WIDTH .left))
+add-rules c = omega (arith, c .loop-width .inv .1, pairs-few (getD (c .args .widths .now) (c .loop-width .width-index) 0) (omega arith))
 
 pub loop-width-again : need.loop-width-again
 loop-width-again c =
@@ -27,7 +27,7 @@ loop-width-again c =
     let e = at-drop-more total ws i 0 (c .loop-width-test .taken) in
     let f = at-drop-more fit-widths ws i 0 (c .loop-width-test .taken) in
     let g = at-drop-more rule-count ws i 0 (c .loop-width-test .taken) in
-    let few = pairs-few (getD ws i 0) (c .if-width-gt-MOST-WIDTH .left) in
+    let few = pairs-few (getD ws i 0) (omega arith) in
     (omega arith, omega arith, omega arith, omega arith, grind (arith, tells))
 
 pub returns : need.returns

@@ -1,6 +1,5 @@
-use mathlib.Core.List.{List}
 use native.Mathlib.Omega.{arith}
-use lib.ListN.{getD, length}
+use lib.ListN.{length}
 use Rattle.std.proofs.shelf.Elements.{all-getD}
 use Rattle.std.proofs.shelf.Lists.{at-drop-more, at-drop-all, getD-default}
 use Rattle.std.proofs.shelf.Ways.{tells}

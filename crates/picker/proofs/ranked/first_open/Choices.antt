@@ -1,8 +1,6 @@
 use mathlib.Core.Path.{_≡_}
-use lib.ListN.{drop, length}
-use Rattle.std.specs.shelf.Lists.{All}
+use lib.ListN.{drop}
 use Rattle.picker.specs.Ranking.{first-open}
-use Rattle.picker.specs.RankedSound.{Within}
 use Rattle.picker.proofs.ranked.first_open.Given as given
 
 abbrev pub Inv-loop-mark : given.InvT-loop-mark
