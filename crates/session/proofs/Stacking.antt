@@ -19,6 +19,7 @@ use Rattle.parts.specs.declared.Side.the-variants.{In, Out}
 use Rattle.book.specs.Meaning.{Rule, names, sound-rule}
 use Rattle.search.specs.declared.Entry.{Entry}
 use Rattle.search.specs.Trail.{settled, code, from, row}
+use Rattle.search.proofs.Settled.{length-row, code-open}
 use Rattle.search.proofs.Tally.{tally, tally-le, tally-more}
 use Rattle.session.specs.Stack.{stacked, marks-of, apart}
 
@@ -73,24 +74,11 @@ stacked-pop es k d h l =
 pub length-stacked : (es : List Entry) (k : ℕ) → k ≤ length es → length (stacked es k) ≡ k
 length-stacked es k h = length-reverse (take k es) ∙ length-take-le k es h
 
-code-none : (o : Option Side) → code o ≡ 0 → o ≡ None
-code-none None e = refl
-code-none (Some In) e = absurd (omega arith)
-code-none (Some Out) e = absurd (omega arith)
-
 -- a part that is not named is not settled
 unnamed : (t : List Entry) (p : ℕ) → names (marks-of t) p ≡ false → settled t p ≡ None
 unfolding settled
 unnamed [] p e = refl
 unnamed (x ∷ t) p e = let k = or-parts (eqb (x .mark .part) p) (names (marks-of t) p) e in cond-false (eqb (x .mark .part) p) (Some (x .mark .side)) (settled t p) (k .0) ∙ unnamed t p (k .1)
-
-length-row : (n : ℕ) (t : List Entry) → length (row n t) ≡ n
-unfolding row from
-length-row n t = by 1 n
-  where
-    by : (i k : ℕ) → length (map (λ q. code (settled t q)) (from i k)) ≡ k
-    by i zero = refl
-    by i (suc k) = ap suc (by (suc i) k)
 
 pub row-none : (n : ℕ) → replicate n 0 ≡ row n []
 unfolding row from settled
@@ -125,7 +113,7 @@ module _ (e : Entry) (t : List Entry) (lo : 1 ≤ e .mark .part) (hi : e .mark .
 pub push-apart : (t : List Entry) (m : Mark) → apart t ≡ true → 1 ≤ m .part → m .part ≤ 120 → getD (row 120 t) (m .part - 1) 0 ≡ 0 → sound-rule 120 (m ∷ marks-of t) ≡ true
 push-apart t m s lo hi free =
     let p : m .part ≡ 1 + (m .part - 1) = omega arith in
-    let none : settled t (m .part) ≡ None = ap (settled t) p ∙ code-none _ (sym (row-at 120 t (m .part - 1) (omega arith)) ∙ free) in
+    let none : settled t (m .part) ≡ None = ap (settled t) p ∙ code-open _ (sym (row-at 120 t (m .part - 1) (omega arith)) ∙ free) in
     and-from (leb 1 (m .part) && leb (m .part) 120) (not (names (marks-of t) (m .part)) && sound-rule 120 (marks-of t))
     (and-from (leb 1 (m .part)) (leb (m .part) 120) (le-leb 1 (m .part) lo) (le-leb (m .part) 120 hi))
     (and-from (not (names (marks-of t) (m .part))) (sound-rule 120 (marks-of t)) (not-from-false (names (marks-of t) (m .part)) (settled-names t (m .part) none)) s)
