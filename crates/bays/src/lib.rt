@@ -1,4 +1,6 @@
 // A book that is computed from the widths of bays: exactly one part of each bay is in. It stores no rule.
+#![tactic(auto)]
+
 ghost use Rattle.std.specs.Prelude.{◌≡◌, ◌+◌, ◌≤◌, true, false, [], ◌∷◌, length, if◌then◌else◌, Some, None, MatchResult};
 ghost use Rattle.std.specs.List.{slice_get};
 ghost use Rattle.std.specs.Option.{option_map};

@@ -1,4 +1,6 @@
 // Books: n parts and a list of rules over them, whatever keeps them.
+#![tactic(auto)]
+
 ghost use Rattle.std.specs.Prelude.{◌≡◌, length};
 ghost use Rattle.book.specs.Meaning.{Rules, Sound, marks_of, mark_of};
 

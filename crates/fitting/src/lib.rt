@@ -1,4 +1,6 @@
 // A whole search in one call: opening, holding, running, and the row that the verdict shows.
+#![tactic(auto)]
+
 pub mod calls;
 
 use parts::refusals::Refusal;

@@ -1,4 +1,6 @@
 // The text of a book by definition, its format as a grammar, and the laws that tie them. The definitions are in specs/.
+#![tactic(auto)]
+
 ghost use Rattle.std.specs.Prelude.{◌≡◌, length};
 ghost use Rattle.grammar.specs.Cases.{table, CasesHold};
 

@@ -1,4 +1,6 @@
 // The holds: which parts must be in or out, in the order in which they were accepted.
+#![tactic(auto)]
+
 ghost use Rattle.std.specs.Prelude.{◌≡◌, ◌≤◌, true, length, take};
 ghost use Rattle.book.specs.Meaning.{sound_rule};
 

@@ -1,4 +1,6 @@
 // The vocabulary of the bench: sides, marks, codes and rows of codes, refusals, faults.
+#![tactic(auto)]
+
 ghost use Rattle.std.specs.Prelude.{◌≡◌, ℕ};
 ghost use Rattle.parts.specs.Codes.{code_of, side_of, is_row};
 ghost use Rattle.parts.specs.Marks.{other_side, opposite_of};

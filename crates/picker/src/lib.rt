@@ -1,4 +1,6 @@
 // Pickers: which open part to settle next, and on what side.
+#![tactic(auto)]
+
 ghost use Rattle.std.specs.Prelude.{◌≡◌};
 ghost use Rattle.picker.specs.Meaning.{Picks, Sound, picked};
 

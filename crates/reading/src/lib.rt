@@ -1,4 +1,6 @@
 // Reads a book's text into two tables: a first pass judges the text, a second fills the tables.
+#![tactic(auto)]
+
 ghost use Rattle.std.specs.Prelude.{◌≡◌, length, IfOk};
 ghost use Rattle.book.specs.Tables.{mark_table, end_table};
 ghost use Rattle.grammar.specs.Law.{AcceptsTheFormat};

@@ -58,16 +58,16 @@ broken_first by i (pressing m) Quiet = refl
 broken_first by i quiet f = refl
 
 pub broken_agrees : (by : ℕ → Reason) (at : Reason → State) (r : List ℕ) (i : ℕ) (os : List (Option Rule))
-    → ((j : ℕ) → at (by (i + j)) ≡ scans.state-of r (get_or os j None))
+    → ((j : ℕ) → at (by (i + j)) ≡ scans.state_of r (get_or os j None))
     → first (λ q. if_broken q (at q)) (map by (from i (length os))) ≡ broken_of by (scan_of r i os)
 unfolding first from
 broken_agrees by at r i [] h = refl
 broken_agrees by at r i (o ∷ os) h =
-    let here : at (by i) ≡ scans.state-of r o = ap (λ k. at (by k)) (omega arith) ∙ h 0 in
+    let here : at (by i) ≡ scans.state_of r o = ap (λ k. at (by k)) (omega arith) ∙ h 0 in
     let rest = broken_agrees by at r (suc i) os (λ j. ap (λ k. at (by k)) (omega arith) ∙ h (suc j)) in
     ap (λ s. or_else (if_broken (by i) s) (first (λ q. if_broken q (at q)) (map by (from (suc i) (length os))))) here
-    ∙ ap (or_else (if_broken (by i) (scans.state-of r o))) (rest ∙ ap (λ k. broken_of by (scan_of r k os)) (sym (add-one i)))
-    ∙ broken_first by i (scans.state-of r o) (scan_of r (i + 1) os)
+    ∙ ap (or_else (if_broken (by i) (scans.state_of r o))) (rest ∙ ap (λ k. broken_of by (scan_of r k os)) (sym (add-one i)))
+    ∙ broken_first by i (scans.state_of r o) (scan_of r (i + 1) os)
 
 pressing_first : (by : ℕ → Reason) (i : ℕ) (s : State) (f : Found) (o : Option Press) → broken_of by (before i s f) ≡ None
     → (broken_of by f ≡ None → o ≡ pressing_of by f) → or_else (if_pressing (by i) s) o ≡ pressing_of by (before i s f)
@@ -79,13 +79,13 @@ pressing_first by i quiet f o n h = h n
 
 -- where no rule is broken, the first pressing one is the scan's
 pub pressing_agrees : (by : ℕ → Reason) (at : Reason → State) (r : List ℕ) (i : ℕ) (os : List (Option Rule))
-    → ((j : ℕ) → at (by (i + j)) ≡ scans.state-of r (get_or os j None)) → broken_of by (scan_of r i os) ≡ None
+    → ((j : ℕ) → at (by (i + j)) ≡ scans.state_of r (get_or os j None)) → broken_of by (scan_of r i os) ≡ None
     → first (λ q. if_pressing q (at q)) (map by (from i (length os))) ≡ pressing_of by (scan_of r i os)
 unfolding first from
 pressing_agrees by at r i [] h n = refl
 pressing_agrees by at r i (o ∷ os) h n =
-    let here : at (by i) ≡ scans.state-of r o = ap (λ k. at (by k)) (omega arith) ∙ h 0 in
+    let here : at (by i) ≡ scans.state_of r o = ap (λ k. at (by k)) (omega arith) ∙ h 0 in
     let same : scan_of r (i + 1) os ≡ scan_of r (suc i) os = ap (λ k. scan_of r k os) (add-one i) in
     let rest = λ (e : broken_of by (scan_of r (i + 1) os) ≡ None). pressing_agrees by at r (suc i) os (λ j. ap (λ k. at (by k)) (omega arith) ∙ h (suc j)) (ap (broken_of by) (sym same) ∙ e) ∙ ap (pressing_of by) (sym same) in
     ap (λ s. or_else (if_pressing (by i) s) (first (λ q. if_pressing q (at q)) (map by (from (suc i) (length os))))) here
-    ∙ pressing_first by i (scans.state-of r o) (scan_of r (i + 1) os) _ n rest
+    ∙ pressing_first by i (scans.state_of r o) (scan_of r (i + 1) os) _ n rest

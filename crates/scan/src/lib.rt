@@ -1,4 +1,6 @@
 // Finding the first broken rule, else the first pressing one.
+#![tactic(auto)]
+
 ghost use Rattle.std.specs.Prelude.{◌≡◌, ℕ, List, length};
 ghost use Rattle.search.specs.Trail.{row as row_of};
 ghost use Rattle.trail.specs.Stacks.{trail_of};

@@ -1,4 +1,6 @@
 // The search by definition: its types, and the law that holds after every list of calls. The definitions are in specs/.
+#![tactic(auto)]
+
 ghost use Rattle.std.specs.Prelude.{◌≡◌, length};
 ghost use Rattle.search.specs.Law.{SearchKeepsItsPromises, CallsLeaveTheRest};
 ghost use Rattle.search.specs.Table.{table, CasesHold};

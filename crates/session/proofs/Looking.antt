@@ -58,7 +58,7 @@ hold_free t hs m s e =
     (omega arith, omega arith, ap (settled t) (sym p) ∙ q.1)
 
 -- the mark of a pressing rule
-rule_free : (t : Trail) (o : Option Rule) (x : Mark) → sound_one 120 o ≡ true → scans.state-of (row 120 t) o ≡ pressing x → Open t x
+rule_free : (t : Trail) (o : Option Rule) (x : Mark) → sound_one 120 o ≡ true → scans.state_of (row 120 t) o ≡ pressing x → Open t x
 rule_free t None x s e = let z : ◌≡◌ {A = ℕ} 0 1 = cc in absurd (omega arith)
 rule_free t (Some r) x s e =
     let says = subst (Says t r) (sym (state_agrees t r s) ∙ e) (state_says t r) in
@@ -67,9 +67,9 @@ rule_free t (Some r) x s e =
 
 scan_free : (t : Trail) (i : ℕ) (os : List (Option Rule)) (j : ℕ) (x : Mark) → ((k : ℕ) → sound_one 120 (get_or os k None) ≡ true) → scan_of (row 120 t) i os ≡ Pressing j x → Open t x
 scan_free t i [] j x s e = let z : ◌≡◌ {A = ℕ} 0 1 = cc in absurd (omega arith)
-scan_free t i (o ∷ os) j x s e = by (scans.state-of (row 120 t) o) (scan_of (row 120 t) (i + 1) os) refl (scan_free t (i + 1) os j x (λ k. s (suc k))) e
+scan_free t i (o ∷ os) j x s e = by (scans.state_of (row 120 t) o) (scan_of (row 120 t) (i + 1) os) refl (scan_free t (i + 1) os j x (λ k. s (suc k))) e
   where
-    by : (v : State) (f : Found) → scans.state-of (row 120 t) o ≡ v → (f ≡ Pressing j x → Open t x) → before i v f ≡ Pressing j x → Open t x
+    by : (v : State) (f : Found) → scans.state_of (row 120 t) o ≡ v → (f ≡ Pressing j x → Open t x) → before i v f ≡ Pressing j x → Open t x
     by broken f p later e = let z : ◌≡◌ {A = ℕ} 0 1 = cc in absurd (omega arith)
     by (pressing m) (Broken k) p later e = let z : ◌≡◌ {A = ℕ} 0 1 = cc in absurd (omega arith)
     by (pressing m) (Pressing k y) p later e = rule_free t o x (s 0) (cc)
@@ -95,9 +95,9 @@ listed_at os j = let k : 1 + j ≡ suc j = omega arith in ap (rule_in os) k ∙ 
     by (o ∷ os) zero = refl
     by (o ∷ os) (suc j) = by os j
 
-one_agrees : (t : Trail) (r : Row) (o : Option Rule) → r ≡ row 120 t → sound_one 120 o ≡ true → state_of t o ≡ scans.state-of r o
+one_agrees : (t : Trail) (r : Row) (o : Option Rule) → r ≡ row 120 t → sound_one 120 o ≡ true → state_of t o ≡ scans.state_of r o
 one_agrees t r None e s = refl
-one_agrees t r (Some x) e s = sym (ap (λ r. scans.state-in r x) e ∙ state_agrees t x s)
+one_agrees t r (Some x) e s = sym (ap (λ r. scans.state_in r x) e ∙ state_agrees t x s)
 
 -- what was not found
 unbroken : (by : ℕ → Reason) (f : Found) → ((i : ℕ) → f ≡ Broken i → ⊥) → broken_of by f ≡ None
@@ -133,11 +133,11 @@ module _ {b : Bench} {m : Machine} {r : Row} (k : Sees b m r) where
   abbrev at : Reason → State
   at q = state_of m.trail (rule_at b.book.rules m.shelf.rows q)
 
-  at_book : (j : ℕ) → at (Book (1 + j)) ≡ scans.state-of r (get_or (map Some b.book.rules) j None)
+  at_book : (j : ℕ) → at (Book (1 + j)) ≡ scans.state_of r (get_or (map Some b.book.rules) j None)
   unfolding rule_at
   at_book j = ap (state_of m.trail) (sym (book_rule b.book.rules (1 + j)) ∙ listed_at _ j) ∙ one_agrees m.trail r _ k.shows ((book_within b.book k.book).sound j)
 
-  at_shelf : (j : ℕ) → at (Shelf (1 + j)) ≡ scans.state-of r (get_or (map (option_map row_marks) m.shelf.rows) j None)
+  at_shelf : (j : ℕ) → at (Shelf (1 + j)) ≡ scans.state_of r (get_or (map (option_map row_marks) m.shelf.rows) j None)
   unfolding rule_at
   at_shelf j = ap (state_of m.trail) (sym (shelf_rule m.shelf.rows (1 + j)) ∙ listed_at _ j) ∙ one_agrees m.trail r _ k.shows ((shelf_within m.shelf k.shelf).sound j)
 

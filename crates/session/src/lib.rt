@@ -1,4 +1,6 @@
 // One session over any book, picker and shelf, equal to the search by definition.
+#![tactic(auto)]
+
 ghost use Rattle.std.specs.Prelude.{◌≡◌, ◌≤◌, length};
 
 pub mod calls;

@@ -1,4 +1,6 @@
 // Shelves: a fixed number of places, each empty or with a row of codes, whatever keeps them.
+#![tactic(auto)]
+
 ghost use Rattle.std.specs.Prelude.{◌≡◌, length};
 ghost use Rattle.shelf.specs.Meaning.{Shelved, Sound, code_of_place, marks_of_place, mark_of_place, can_write, written, can_clear, cleared, reply};
 

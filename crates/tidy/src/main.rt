@@ -1,4 +1,6 @@
 // tidy: reads book.cnf in the current folder and prints the book as it is written here, or where it is refused.
+#![tactic(auto)]
+
 use anyhow::anyhow;
 use book::Book;
 use book::text::TextBook;

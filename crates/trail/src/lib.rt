@@ -1,4 +1,6 @@
 // The trail: what is settled, in its order, and why.
+#![tactic(auto)]
+
 ghost use Rattle.std.specs.Prelude.{◌≡◌, ◌≤◌, true, map, length};
 ghost use Rattle.search.specs.Trail.{row as row_of};
 ghost use Rattle.trail.specs.Stack.{stacked, apart};

@@ -1,4 +1,6 @@
 // trial_read: reads each text of cases.tsv, which an independent reader judged, and tells where the two disagree.
+#![tactic(auto)]
+
 use anyhow::Context;
 use grammar::Size;
 use parts::refusals::Fault;

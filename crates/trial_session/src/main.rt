@@ -1,5 +1,7 @@
 // trial_session: replays histories on sessions over both shelves, and tells where they disagree. Those of cases.tsv were told by an independent search, and those
 // of hard.tsv, which have many turns and lessons, by tools/tell_histories.
+#![tactic(auto)]
+
 mod comparing;
 mod history;
 mod lessons;

@@ -1,4 +1,6 @@
 // The working rule of a turn, kept as the row of the marks that it names.
+#![tactic(auto)]
+
 ghost use Rattle.std.specs.Prelude.{◌≡◌, ◌-◌, [], length, is_some, None, slice_set};
 ghost use Rattle.search.specs.Machine.{marks_at, rule_at, resolve as resolved, turn as turned_at};
 ghost use Rattle.search.specs.Trail.{names_mark, enter as enter_marks};

@@ -1,4 +1,6 @@
 // Writing any book as a text.
+#![tactic(auto)]
+
 ghost use Rattle.std.specs.Prelude.{◌≡◌, length, take, IfOk};
 ghost use Rattle.book.specs.Meaning.{count_marks};
 ghost use Rattle.grammar.specs.Law.{ReadsBack};

@@ -4,7 +4,7 @@ use Rattle.std.proofs.lemmas.Bool.Decides.{nat_tests}
 use Rattle.bays.specs.Meaning.{total, rule_count, fit_widths}
 use Rattle.bays.specs.Fit.{pairs_few}
 use Rattle.bays.proofs.counts.Goals as goal
-use Rattle.bays.proofs.counts.Goals.{then-width-eq0-via-then-width-eq0, then-width-eq0-via-else-width-eq0+then-width-gt-MOST-WIDTH, then-width-eq0-via-else-width-eq0+else-width-gt-MOST-WIDTH+then-n-width-gt-MOST-PARTS}
+use Rattle.bays.proofs.counts.Goals.{then-width-eq0-via-then-width-eq0, then-width-eq0-via-else-width-eq0+then-width-gt-MOST_WIDTH, then-width-eq0-via-else-width-eq0+else-width-gt-MOST_WIDTH+then-n-width-gt-MOST_PARTS}
 
 pub returns-then-width-eq0 : goal.returns-then-width-eq0
 returns-then-width-eq0 c =
@@ -12,12 +12,12 @@ returns-then-width-eq0 c =
     let f = at_drop_more fit_widths _ _ 0 c.loop-width-test.true in
     elim c.then-width-eq0.branch [
       | then-width-eq0-via-then-width-eq0 w ↦ grind (arith, nat_tests)
-      | then-width-eq0-via-else-width-eq0+then-width-gt-MOST-WIDTH w ↦ grind (arith, nat_tests)
-      | then-width-eq0-via-else-width-eq0+else-width-gt-MOST-WIDTH+then-n-width-gt-MOST-PARTS w ↦ grind (arith, nat_tests)
+      | then-width-eq0-via-else-width-eq0+then-width-gt-MOST_WIDTH w ↦ grind (arith, nat_tests)
+      | then-width-eq0-via-else-width-eq0+else-width-gt-MOST_WIDTH+then-n-width-gt-MOST_PARTS w ↦ grind (arith, nat_tests)
     ]
 
-pub overflow-add-rules : goal.overflow-add-rules
-overflow-add-rules c = omega (arith, c.loop-width.invariant.1, pairs_few (get_or c.args.widths.now c.loop-width.width-index 0) (omega arith))
+pub overflow_add-rules : goal.overflow_add-rules
+overflow_add-rules c = omega (arith, c.loop-width.invariant.1, pairs_few (get_or c.args.widths.now c.loop-width.width-index 0) (omega arith))
 
 pub loop-width-preserved : goal.loop-width-preserved
 loop-width-preserved c =

@@ -7,8 +7,8 @@ use Rattle.bays.specs.Fit.{fit_from}
 use Rattle.bays.proofs.Walks.{place_nth, this_bay, later_bay}
 use Rattle.bays.proofs.spot_of.Goals as goal
 
-pub bay-rules-count-requires : goal.bay-rules-count-requires
-bay-rules-count-requires c = All-get_or (λ w. (1 ≤ w) × (w ≤ 20)) c.args.widths.now c.loop-width.width-index 0 c.loop-width-test.true (fit_from _ c.requires).widths
+pub bay_rules-count-requires : goal.bay_rules-count-requires
+bay_rules-count-requires c = All-get_or (λ w. (1 ≤ w) × (w ≤ 20)) c.args.widths.now c.loop-width.width-index 0 c.loop-width-test.true (fit_from _ c.requires).widths
 
 pub returns-then-number-count : goal.returns-then-number-count
 returns-then-number-count c =
@@ -19,7 +19,7 @@ returns-then-number-count c =
     record {
       within = omega (arith, (fit_from ws c.requires).few);
       inside = omega arith;
-      is = place_nth (bays_rules 1 ws) c.args.rule c.if-rule-eq0.false ∙ sym c.loop-width.invariant.1 ∙ b ∙ this_bay _ (get_or ws i 0) (drop (i + 1) ws) _ _ c.bay-rules-count.ensures c.if-number-count.true;
+      is = place_nth (bays_rules 1 ws) c.args.rule c.if-rule-eq0.false ∙ sym c.loop-width.invariant.1 ∙ b ∙ this_bay _ (get_or ws i 0) (drop (i + 1) ws) _ _ c.bay_rules-count.ensures c.if-number-count.true;
     }
 
 pub loop-width-preserved : goal.loop-width-preserved
@@ -28,7 +28,7 @@ loop-width-preserved c =
     let i = c.loop-width.width-index in
     let t = at_drop_more total ws i 0 c.loop-width-test.true in
     let b = at_drop_more (λ xs. slice_get (bays_rules c.loop-width.from xs) c.loop-width.number) ws i 0 c.loop-width-test.true in
-    (omega arith, sym (b ∙ later_bay _ (get_or ws i 0) (drop (i + 1) ws) _ _ c.bay-rules-count.ensures c.if-number-count.false) ∙ c.loop-width.invariant.1)
+    (omega arith, sym (b ∙ later_bay _ (get_or ws i 0) (drop (i + 1) ws) _ _ c.bay_rules-count.ensures c.if-number-count.false) ∙ c.loop-width.invariant.1)
 
 pub returns : goal.returns
 returns c =

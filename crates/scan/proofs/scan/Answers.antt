@@ -13,7 +13,7 @@ use Rattle.trail.specs.Stacks.{trail_of}
 use Rattle.trail.proofs.Fronts.{sound_part}
 use Rattle.scan.proofs.scan.Given.{Over}
 use Rattle.scan.proofs.scan.Goals as goal
-use Rattle.scan.proofs.scan.Goals.{In-Some-mark, then-code-eq0+else-is-some, else-code-eq0+else-code, in-Quiet, in-default-pressing}
+use Rattle.scan.proofs.scan.Goals.{In-Some-mark, then-code-eq0+else-is_some, else-code-eq0+else-code, in-Quiet, in_default-pressing}
 
 none_from : {X : Type 0} (o : Option X) → is_some o ≡ false → o ≡ None
 none_from None e = refl
@@ -35,10 +35,10 @@ within g c =
 ended : (row : List ℕ) (ms : Rule) (k : ℕ) (o : Option Mark) (s : State) → length ms ≤ k → free o (state_in row (drop k ms)) ≡ s → free o broken ≡ s
 ended row ms k o s h e = ap (free o) (sym (at_drop_all (state_in row) ms k h)) ∙ e
 
-pub rules-preserved-in-default : goal.rules-preserved-in-default
-rules-preserved-in-default g c =
+pub rules-preserved-in_default : goal.rules-preserved-in_default
+rules-preserved-in_default g c =
     let rs = (g.R.RuleList.listed c.args.list.now).rules in
-    (c.rules.invariant.0, sym (rule_quiet c.row-row.result.now rs c.rules.i c.rules.pressing (omega arith) (ap (state_of c.row-row.result.now) (no_rule rs c.rules.i (omega arith) c.in-default.ensures))) ∙ c.rules.invariant.1)
+    (c.rules.invariant.0, sym (rule_quiet c.row-row.result.now rs c.rules.i c.rules.pressing (omega arith) (ap (state_of c.row-row.result.now) (no_rule rs c.rules.i (omega arith) c.in_default.ensures))) ∙ c.rules.invariant.1)
 
 pub marks-init : goal.marks-init
 marks-init g c =
@@ -46,22 +46,22 @@ marks-init g c =
     let r = some_rule rs c.rules.i (omega arith) _ c.in-Some.ensures in
     (r.0, r.1, refl)
 
-pub marks-preserved-in-default-mark : goal.marks-preserved-in-default-mark
-marks-preserved-in-default-mark g c =
-    let q = c.in-default-mark.ensures ∙ mark_next (g.R.RuleList.listed c.args.list.now).rules c.rules.i (omega arith) c.marks.k (record { part = 0; side = In }) c.marks.invariant.0 (omega (arith, c.marks.invariant.1)) in
+pub marks-preserved-in_default-mark : goal.marks-preserved-in_default-mark
+marks-preserved-in_default-mark g c =
+    let q = c.in_default-mark.ensures ∙ mark_next (g.R.RuleList.listed c.args.list.now).rules c.rules.i (omega arith) c.marks.k (record { part = 0; side = In }) c.marks.invariant.0 (omega (arith, c.marks.invariant.1)) in
     let z : ◌≡◌ {A = ℕ} 0 1 = cc in
     absurd (omega arith)
 
-pub overflow-sub-code : goal.overflow-sub-code
-overflow-sub-code g c = (within g (goal.at.overflow-sub-code g c).In-Some-mark).0
+pub overflow_sub-code : goal.overflow_sub-code
+overflow_sub-code g c = (within g (goal.at.overflow_sub-code g c).In-Some-mark).0
 
 pub bounds-row-m : goal.bounds-row-m
 bounds-row-m g c = let w = within g (goal.at.bounds-row-m g c).In-Some-mark in omega (arith, w.0, w.1, ap length c.row-row.ensures, length_row 120 (trail_of c.args.trail.now), (g.R.RuleList.within c.args.list.now).few)
 
-pub rules-preserved-then-is-some : goal.rules-preserved-then-is-some
-rules-preserved-then-is-some g c =
+pub rules-preserved-then-is_some : goal.rules-preserved-then-is_some
+rules-preserved-then-is_some g c =
     let rs = (g.R.RuleList.listed c.args.list.now).rules in
-    let v = mark_second c.row-row.result.now (marks_at rs c.rules.i) c.marks.k c.in-Some-mark.m c.marks.free (omega (arith, c.marks.invariant.1)) (read g (goal.at.rules-preserved-then-is-some g c).In-Some-mark) c.if-code-eq0.true (sym c.is-some.ensures ∙ c.if-is-some.true) in
+    let v = mark_second c.row-row.result.now (marks_at rs c.rules.i) c.marks.k c.in-Some-mark.m c.marks.free (omega (arith, c.marks.invariant.1)) (read g (goal.at.rules-preserved-then-is_some g c).In-Some-mark) c.if-code-eq0.true (sym c.is_some.ensures ∙ c.if-is_some.true) in
     (c.rules.invariant.0, sym (rule_quiet c.row-row.result.now rs c.rules.i c.rules.pressing (omega arith) (ap (state_of c.row-row.result.now) c.marks.invariant.0 ∙ sym c.marks.invariant.2 ∙ v)) ∙ c.rules.invariant.1)
 
 pub rules-preserved-then-code : goal.rules-preserved-then-code
@@ -79,17 +79,17 @@ marks-preserved g c =
       c.marks.invariant.0,
       c.marks.invariant.1,
       elim c.if-code-eq0.branch [
-        | then-code-eq0+else-is-some w ↦ ap (λ o. free o (state_in row (drop (c.marks.k + 1) ms))) w.free-is ∙ sym (mark_open row ms c.marks.k m c.marks.free (omega (arith, c.marks.invariant.1)) is w.if-code-eq0.true (none_from c.marks.free (sym w.is-some.ensures ∙ w.if-is-some.false))) ∙ c.marks.invariant.2
+        | then-code-eq0+else-is_some w ↦ ap (λ o. free o (state_in row (drop (c.marks.k + 1) ms))) w.free-is ∙ sym (mark_open row ms c.marks.k m c.marks.free (omega (arith, c.marks.invariant.1)) is w.if-code-eq0.true (none_from c.marks.free (sym w.is_some.ensures ∙ w.if-is_some.false))) ∙ c.marks.invariant.2
         | else-code-eq0+else-code w ↦ ap (λ o. free o (state_in row (drop (c.marks.k + 1) ms))) w.free-is ∙ sym (mark_false row ms c.marks.k m c.marks.free (omega (arith, c.marks.invariant.1)) is w.if-code-eq0.false (λ e. w.if-code.false (e ∙ sym w.code.ensures))) ∙ c.marks.invariant.2
       ],
     )
 
-pub returns-in-default-free : goal.returns-in-default-free
-returns-in-default-free g c =
+pub returns-in_default-free : goal.returns-in_default-free
+returns-in_default-free g c =
     let rs = (g.R.RuleList.listed c.args.list.now).rules in
     let row = c.row-row.result.now in
     let s = ended row (marks_at rs c.rules.i) c.marks.k c.marks.free _ (omega (arith, c.marks.invariant.1)) c.marks.invariant.2 in
-    sym (rule_broken row rs c.rules.i c.rules.pressing (omega arith) c.rules.invariant.0 (ap (state_of row) c.marks.invariant.0 ∙ sym s ∙ ap (λ o. free o broken) c.in-default-free.is)) ∙ c.rules.invariant.1 ∙ ap (λ r. scan_of r 1 rs) c.row-row.ensures
+    sym (rule_broken row rs c.rules.i c.rules.pressing (omega arith) c.rules.invariant.0 (ap (state_of row) c.marks.invariant.0 ∙ sym s ∙ ap (λ o. free o broken) c.in_default-free.is)) ∙ c.rules.invariant.1 ∙ ap (λ r. scan_of r 1 rs) c.row-row.ensures
 
 pub rules-preserved : goal.rules-preserved
 rules-preserved g c =
@@ -104,9 +104,9 @@ rules-preserved g c =
         subst (λ (f : Found). is_quiet_or_pressing f) (sym w.pressing-is) tt,
         ap (λ f. onto f rest) w.pressing-is ∙ sym (rule_first row rs c.rules.i c.rules.pressing (omega arith) m j w.in-Quiet.is) ∙ c.rules.invariant.1,
       )
-      | in-default-pressing w ↦ (
+      | in_default-pressing w ↦ (
         subst (λ (f : Found). is_quiet_or_pressing f) (sym w.pressing-is) c.rules.invariant.0,
-        ap (λ f. onto f rest) w.pressing-is ∙ sym (rule_later row rs c.rules.i c.rules.pressing (omega arith) m j w.in-default-pressing.not-Quiet) ∙ c.rules.invariant.1,
+        ap (λ f. onto f rest) w.pressing-is ∙ sym (rule_later row rs c.rules.i c.rules.pressing (omega arith) m j w.in_default-pressing.not-Quiet) ∙ c.rules.invariant.1,
       )
     ]
 

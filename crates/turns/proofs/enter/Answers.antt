@@ -7,17 +7,17 @@ use Rattle.scan.specs.Scan.{rule_in}
 use Rattle.turns.proofs.Working.{no_rule, some_rule, mark_next, enter_next}
 use Rattle.turns.proofs.enter.Goals as goal
 
-pub returns-in-default : goal.returns-in-default
+pub returns-in_default : goal.returns-in_default
 unfolding enter
-returns-in-default g c =
-    let none = no_rule (rule_in (g.R.RuleList.listed c.args.list.now).rules c.args.rule) c.in-default.ensures in
+returns-in_default g c =
+    let none = no_rule (rule_in (g.R.RuleList.listed c.args.list.now).rules c.args.rule) c.in_default.ensures in
     record { there = sym (ap is_some none); after = sym (ap (λ o. enter c.args.row.now (marks_at o)) none) }
 
-pub loop-k-preserved-in-default-mark : goal.loop-k-preserved-in-default-mark
-loop-k-preserved-in-default-mark g c =
+pub loop-k-preserved-in_default-mark : goal.loop-k-preserved-in_default-mark
+loop-k-preserved-in_default-mark g c =
     let o = rule_in (g.R.RuleList.listed c.args.list.now).rules c.args.rule in
     let long = (some_rule o _ c.in-Some.ensures).1 in
-    let q = c.in-default-mark.ensures ∙ mark_next o c.loop-k.k (record { part = 0; side = In }) (omega (arith, long)) in
+    let q = c.in_default-mark.ensures ∙ mark_next o c.loop-k.k (record { part = 0; side = In }) (omega (arith, long)) in
     let z : ◌≡◌ {A = ℕ} 0 1 = cc in
     absurd (omega arith)
 

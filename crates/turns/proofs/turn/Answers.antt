@@ -37,9 +37,9 @@ loop-entry-preserved g c =
 pub returns : goal.returns
 unfolding turn
 returns g c =
-    let none = emptied (trail_of c.loop-entry.trail) c.in-default.ensures.value in
+    let none = emptied (trail_of c.loop-entry.trail) c.in_default.ensures.value in
     record {
       turned = sym (ap (turn _ c.loop-entry.row) none) ∙ c.loop-entry.invariant;
-      bottom = λ e. c.in-default.ensures.after ∙ ap older none;
+      bottom = λ e. c.in_default.ensures.after ∙ ap older none;
       long = c.loop-entry.auto.row;
     }

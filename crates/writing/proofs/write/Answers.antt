@@ -5,36 +5,36 @@ use Rattle.grammar.proofs.Back.{writing_reads_back}
 use Rattle.writing.proofs.Written.{many_rules, many_marks, page_short, page_long, page_copied}
 use Rattle.writing.proofs.write.Goals as goal
 
-pub returns-then-rules-gt-MOST-TEXT-RULES : goal.returns-then-rules-gt-MOST-TEXT-RULES
-returns-then-rules-gt-MOST-TEXT-RULES g c =
+pub returns-then-rules-gt-MOST_TEXT_RULES : goal.returns-then-rules-gt-MOST_TEXT_RULES
+returns-then-rules-gt-MOST_TEXT_RULES g c =
     let e = many_rules (length c.args.buffer.now) (g.B.Book.meaning c.args.book.now) (omega arith) in
     search rules
 
-pub returns-in-default : goal.returns-in-default
-returns-in-default g c =
-    let e = many_marks (length c.args.buffer.now) (g.B.Book.meaning c.args.book.now) c.in-default.ensures in
+pub returns-in_default : goal.returns-in_default
+returns-in_default g c =
+    let e = many_marks (length c.args.buffer.now) (g.B.Book.meaning c.args.book.now) c.in_default.ensures in
     search rules
 
-pub returns-in-default-text : goal.returns-in-default-text
-returns-in-default-text g c =
-    let e = page_short (length c.args.buffer.now) (g.B.Book.meaning c.args.book.now) c.empty-page.ensures c.put-book.ensures c.in-default-text.ensures in
+pub returns-in_default-text : goal.returns-in_default-text
+returns-in_default-text g c =
+    let e = page_short (length c.args.buffer.now) (g.B.Book.meaning c.args.book.now) c.empty-page.ensures c.put_book.ensures c.in_default-text.ensures in
     search rules
 
 pub returns-then-text-buffer : goal.returns-then-text-buffer
 returns-then-text-buffer g c =
-    let e = page_long (length c.args.buffer.now) (g.B.Book.meaning c.args.book.now) c.empty-page.ensures c.put-book.ensures c.in-Some-text.text.now c.in-Some-text.ensures (omega arith) in
+    let e = page_long (length c.args.buffer.now) (g.B.Book.meaning c.args.book.now) c.empty-page.ensures c.put_book.ensures c.in-Some-text.text.now c.in-Some-text.ensures (omega arith) in
     search rules
 
 pub returns : goal.returns
 returns g c =
     let text = c.in-Some-text.text.now in
     let buffer = c.args.buffer.now in
-    let e = page_copied (length buffer) (g.B.Book.meaning c.args.book.now) c.empty-page.ensures c.put-book.ensures text c.in-Some-text.ensures (omega arith) _ c.in-Some.ensures (omega arith) in
+    let e = page_copied (length buffer) (g.B.Book.meaning c.args.book.now) c.empty-page.ensures c.put_book.ensures text c.in-Some-text.ensures (omega arith) _ c.in-Some.ensures (omega arith) in
     let b = g.B.Book.meaning c.args.book.now in
     record {
       reply = search rules;
       back = λ marks ends room.
-          ap (read_of marks ends) (take_at _ _ (length text) (ap length c.copy-from-slice.ensures.after) ∙ c.copy-from-slice.ensures.after)
+          ap (read_of marks ends) (take_at _ _ (length text) (ap length c.copy_from_slice.ensures.after) ∙ c.copy_from_slice.ensures.after)
           ∙ writing_reads_back (length buffer) b text (g.B.Book.sound c.args.book.now) e marks ends room;
       buffer = search rules;
     }

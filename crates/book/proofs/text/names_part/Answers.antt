@@ -6,8 +6,8 @@ use Rattle.book.specs.Meaning.{names}
 use Rattle.book.specs.Tables.{mark_from}
 use Rattle.book.proofs.text.names_part.Goals as goal
 
-pub returns-then-mark-from-part : goal.returns-then-mark-from-part
-returns-then-mark-from-part c =
+pub returns-then-mark_from-part : goal.returns-then-mark_from-part
+returns-then-mark_from-part c =
     let e = at_drop_more (λ xs. names (map mark_from xs) c.args.part) _ _ (pos 0) c.loop-number-test.true in
     let f : SFits w16 (get_or c.args.marks.now c.loop-number.number-index (pos 0)) = search rules in
     grind (arith, nat_tests, to_z-of_z)

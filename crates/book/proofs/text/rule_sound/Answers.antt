@@ -5,7 +5,7 @@ use Rattle.std.proofs.lemmas.Bool.Decides.{nat_tests}
 use Rattle.book.specs.Meaning.{sound_rule}
 use Rattle.book.specs.Tables.{mark_from}
 use Rattle.book.proofs.text.rule_sound.Goals as goal
-use Rattle.book.proofs.text.rule_sound.Goals.{then-part-eq0-via-then-part-eq0, then-part-eq0-via-else-part-eq0+then-part-n, then-part-eq0-via-else-part-eq0+else-part-n+then-names-part}
+use Rattle.book.proofs.text.rule_sound.Goals.{then-part-eq0-via-then-part-eq0, then-part-eq0-via-else-part-eq0+then-part-n, then-part-eq0-via-else-part-eq0+else-part-n+then-names_part}
 
 pub returns-then-part-eq0 : goal.returns-then-part-eq0
 returns-then-part-eq0 c =
@@ -14,7 +14,7 @@ returns-then-part-eq0 c =
     elim c.then-part-eq0.branch [
       | then-part-eq0-via-then-part-eq0 w ↦ grind (arith, nat_tests, to_z-of_z, take_rest)
       | then-part-eq0-via-else-part-eq0+then-part-n w ↦ grind (arith, nat_tests, to_z-of_z, take_rest)
-      | then-part-eq0-via-else-part-eq0+else-part-n+then-names-part w ↦ grind (arith, nat_tests, to_z-of_z, take_rest)
+      | then-part-eq0-via-else-part-eq0+else-part-n+then-names_part w ↦ grind (arith, nat_tests, to_z-of_z, take_rest)
     ]
 
 pub loop-i-preserved : goal.loop-i-preserved

@@ -6,20 +6,20 @@ use Rattle.book.specs.Tables.{mark_from, cut}
 use Rattle.book.proofs.Spans.{rising_more}
 use Rattle.book.proofs.text.rules_sound.Goals as goal
 
-pub offset-bounds-marks-from : goal.offset-bounds-marks-from
-offset-bounds-marks-from c = let s = rising_more _ _ _ _ c.loop-end-test.true c.loop-end.invariant.0 in search rules
+pub offset_bounds-marks-from : goal.offset_bounds-marks-from
+offset_bounds-marks-from c = let s = rising_more _ _ _ _ c.loop-end-test.true c.loop-end.invariant.0 in search rules
 
-pub slice-bounds-rule-sound-count : goal.slice-bounds-rule-sound-count
-slice-bounds-rule-sound-count c = (rising_more _ _ _ _ c.loop-end-test.true c.loop-end.invariant.0).rises
+pub slice_bounds-rule_sound-count : goal.slice_bounds-rule_sound-count
+slice_bounds-rule_sound-count c = (rising_more _ _ _ _ c.loop-end-test.true c.loop-end.invariant.0).rises
 
-pub slice-bounds-rule-sound-start : goal.slice-bounds-rule-sound-start
-slice-bounds-rule-sound-start c = let s = rising_more _ _ _ _ c.loop-end-test.true c.loop-end.invariant.0 in search rules
+pub slice_bounds-rule_sound-start : goal.slice_bounds-rule_sound-start
+slice_bounds-rule_sound-start c = let s = rising_more _ _ _ _ c.loop-end-test.true c.loop-end.invariant.0 in search rules
 
-pub slice-bounds-rule-sound-end : goal.slice-bounds-rule-sound-end
-slice-bounds-rule-sound-end c = let s = rising_more _ _ _ _ c.loop-end-test.true c.loop-end.invariant.0 in search rules
+pub slice_bounds-rule_sound-end : goal.slice_bounds-rule_sound-end
+slice_bounds-rule_sound-end c = let s = rising_more _ _ _ _ c.loop-end-test.true c.loop-end.invariant.0 in search rules
 
-pub returns-then-not-rule-sound : goal.returns-then-not-rule-sound
-returns-then-not-rule-sound c =
+pub returns-then-not-rule_sound : goal.returns-then-not-rule_sound
+returns-then-not-rule_sound c =
     let e = at_drop_more (λ es. sound_rules c.args.n (cut c.loop-end.from es (map mark_from c.args.marks.now))) _ _ 0 c.loop-end-test.true in
     grind (arith, nat_tests, take-map, drop-map)
 

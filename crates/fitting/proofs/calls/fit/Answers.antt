@@ -26,11 +26,11 @@ returns-in-Ok g c =
     let u : Until = trial b hs k (opened (shelved c.args.shelf)) in
     let same : trial (bench_of rules picks s) hs k (machine_of rules shelved s) ≡ u = ap (λ x. trial x hs k (machine_of rules shelved s)) bench ∙ ap (trial b hs k) o.4 in
     let size : (rules s.book).n ≡ n = ap (λ x. (rules x).n) o.1 in
-    let answer : c.fit-under-reply.result ≡ trial_reply n u old = c.fit-under-reply.ensures.answer ∙ ap (λ j. trial_reply j (trial (bench_of rules picks s) hs k (machine_of rules shelved s)) old) size ∙ ap (λ x. trial_reply n x old) same in
-    let shows : c.fit-under-reply.new.row ≡ filled (trial_row n u old) old = c.fit-under-reply.ensures.shows ∙ ap (λ j. filled (trial_row j (trial (bench_of rules picks s) hs k (machine_of rules shelved s)) old) old) size ∙ ap (λ x. filled (trial_row n x old) old) same in
-    let shelf = ap (λ t. shelved t.2) c.close-book.ensures ∙ ap (λ (m : Machine). m.shelf) c.fit-under-reply.ensures.after ∙ ap (λ (x : Until). x.state.shelf) same in
+    let answer : c.fit_under-reply.result ≡ trial_reply n u old = c.fit_under-reply.ensures.answer ∙ ap (λ j. trial_reply j (trial (bench_of rules picks s) hs k (machine_of rules shelved s)) old) size ∙ ap (λ x. trial_reply n x old) same in
+    let shows : c.fit_under-reply.new.row ≡ filled (trial_row n u old) old = c.fit_under-reply.ensures.shows ∙ ap (λ j. filled (trial_row j (trial (bench_of rules picks s) hs k (machine_of rules shelved s)) old) old) size ∙ ap (λ x. filled (trial_row n x old) old) same in
+    let shelf = ap (λ t. shelved t.2) c.close-book.ensures ∙ ap (λ (m : Machine). m.shelf) c.fit_under-reply.ensures.after ∙ ap (λ (x : Until). x.state.shelf) same in
     record {
       truly = rw (answer, shows) (trial_truly b (shelved c.args.shelf) hs k old (subst (λ x. Lawful x (shelved c.args.shelf)) bench o.5));
       exactly = rw o.0 (answer, shows, shelf);
-      back = (ap (λ t. t.0) c.close-book.ensures ∙ c.fit-under-reply.ensures.kept.0 ∙ o.1, ap (λ t. t.1) c.close-book.ensures ∙ c.fit-under-reply.ensures.kept.1 ∙ o.2);
+      back = (ap (λ t. t.0) c.close-book.ensures ∙ c.fit_under-reply.ensures.kept.0 ∙ o.1, ap (λ t. t.1) c.close-book.ensures ∙ c.fit_under-reply.ensures.kept.1 ∙ o.2);
     }

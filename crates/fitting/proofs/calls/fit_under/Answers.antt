@@ -28,19 +28,19 @@ held g c = (until (bench g c) (holding c.args.holds.now) (start g c)).state
 -- nothing was refused by holding, and the run by the bench at the start
 unrefused : (g : Over) (c : After-run g) → (until (bench g c) (holding c.args.holds.now) (start g c)).stopped ≡ None
 unfolding bench start
-unrefused g c = (reply_ok _ tt tt (sym c.in-ok-hold-all.was ∙ c.hold-all.ensures.answer)).0
+unrefused g c = (reply_ok _ tt tt (sym c.in_ok-hold_all.was ∙ c.hold_all.ensures.answer)).0
 
 runs : (g : Over) (c : After-run g) → (c.run.result ≡ run_reply (bench g c) (held g c) c.args.budget) × (ran g c ≡ call (bench g c) (run_for c.args.budget) (held g c))
 unfolding bench start ran held
 runs g c =
     let k = c.args.budget in
-    let same = bench_same g.B.Book.meaning g.P.Picker.meaning c.args.session.now c.hold-all.new.session c.hold-all.ensures.kept in (
-      c.run.ensures.answer ∙ ap (λ x. run_reply x (machine_of g.B.Book.meaning g.S.Shelf.meaning c.hold-all.new.session) k) same ∙ ap (λ x. run_reply (bench g c) x k) c.hold-all.ensures.after,
-      c.run.ensures.after ∙ ap (λ x. call x (run_for k) (machine_of g.B.Book.meaning g.S.Shelf.meaning c.hold-all.new.session)) same ∙ ap (call (bench g c) (run_for k)) c.hold-all.ensures.after,
+    let same = bench_same g.B.Book.meaning g.P.Picker.meaning c.args.session.now c.hold_all.new.session c.hold_all.ensures.kept in (
+      c.run.ensures.answer ∙ ap (λ x. run_reply x (machine_of g.B.Book.meaning g.S.Shelf.meaning c.hold_all.new.session) k) same ∙ ap (λ x. run_reply (bench g c) x k) c.hold_all.ensures.after,
+      c.run.ensures.after ∙ ap (λ x. call x (run_for k) (machine_of g.B.Book.meaning g.S.Shelf.meaning c.hold_all.new.session)) same ∙ ap (call (bench g c) (run_for k)) c.hold_all.ensures.after,
     )
 
 kept : (g : Over) (c : After-run g) → Kept c.args.session.now c.run.new.self
-kept g c = kept_more c.args.session.now c.hold-all.new.session c.run.new.self c.hold-all.ensures.kept c.run.ensures.kept
+kept g c = kept_more c.args.session.now c.hold_all.new.session c.run.new.self c.hold_all.ensures.kept c.run.ensures.kept
 
 -- a run that was not refused ends the trial, and its report is the state's
 module _ (g : Over) (c : After-run g) (told : Report) (was : c.run.result ≡ Ok told) where
@@ -54,88 +54,88 @@ module _ (g : Over) (c : After-run g) (told : Report) (was : c.run.result ≡ Ok
   reported : told ≡ report (ran g c)
   reported = accepted.1 ∙ ap report (sym (runs g c).1)
 
-pub returns-in-err-hold-all : goal.returns-in-err-hold-all
-returns-in-err-hold-all g c =
-    let p = err_from_is_err_and c.from-residual.result c.from-residual.ensures.1 in
+pub returns-in_err-hold_all : goal.returns-in_err-hold_all
+returns-in_err-hold_all g c =
+    let p = err_from_is_err_and c.from_residual.result c.from_residual.ensures.1 in
     let s = c.args.session.now in
     let b = bench_of g.B.Book.meaning g.P.Picker.meaning s in
     let m = machine_of g.B.Book.meaning g.S.Shelf.meaning s in
-    let why = c.in-err-hold-all.field-0.0 in
-    let o = reply_err _ tt why (sym c.in-err-hold-all.was ∙ c.hold-all.ensures.answer) in
+    let why = c.in_err-hold_all.field-0.0 in
+    let o = reply_err _ tt why (sym c.in_err-hold_all.was ∙ c.hold_all.ensures.answer) in
     let e = ends_refused b c.args.holds.now c.args.budget m c.args.row.now why _ (trial_held b c.args.holds.now c.args.budget m why o) in
-    rw (p.1, p.2) (record { answer = e.answer; after = c.hold-all.ensures.after ∙ e.after; shows = e.shows; kept = c.hold-all.ensures.kept })
+    rw (p.1, p.2) (record { answer = e.answer; after = c.hold_all.ensures.after ∙ e.after; shows = e.shows; kept = c.hold_all.ensures.kept })
 
-pub returns-in-err-report : goal.returns-in-err-report
+pub returns-in_err-report : goal.returns-in_err-report
 unfolding bench start ran held
-returns-in-err-report g c =
-    let p = err_from_is_err_and c.from-residual-in-err-report.result c.from-residual-in-err-report.ensures.1 in
-    let q = (goal.at.returns-in-err-report g c).After-run in
+returns-in_err-report g c =
+    let p = err_from_is_err_and c.from_residual-in_err-report.result c.from_residual-in_err-report.ensures.1 in
+    let q = (goal.at.returns-in_err-report g c).After-run in
     let b = bench g q in
-    let why = c.in-err-report.field-0.0 in
-    let f = reply_err _ _ why (sym c.in-err-report.was ∙ (runs g q).0) in
+    let why = c.in_err-report.field-0.0 in
+    let f = reply_err _ _ why (sym c.in_err-report.was ∙ (runs g q).0) in
     let e = ends_refused b c.args.holds.now c.args.budget (start g q) c.args.row.now why _ (trial_run_refused b c.args.holds.now c.args.budget (start g q) why (unrefused g q) f) in
     rw (p.1, p.2) (record { answer = e.answer; after = (runs g q).1 ∙ refused_same b (held g q) (run_for c.args.budget) why f ∙ e.after; shows = e.shows; kept = kept g q })
 
-pub returns-in-err-choice : goal.returns-in-err-choice
+pub returns-in_err-choice-in-Fits : goal.returns-in_err-choice-in-Fits
 unfolding bench start ran held
-returns-in-err-choice g c =
-    let p = err_from_is_err_and c.from-residual-in-err-choice.result c.from-residual-in-err-choice.ensures.1 in
-    let q = (goal.at.returns-in-err-choice g c).After-run in
+returns-in_err-choice-in-Fits g c =
+    let p = err_from_is_err_and c.from_residual-in_err-choice-in-Fits.result c.from_residual-in_err-choice-in-Fits.ensures.1 in
+    let q = (goal.at.returns-in_err-choice-in-Fits g c).After-run in
     let old = c.args.row.now in
-    let told = c.in-ok-report.report in
-    let v = sym (ap (λ (x : Report). x.told) (reported g q told c.in-ok-report.was)) ∙ c.in-Fits.is in
+    let told = c.in_ok-report.report in
+    let v = sym (ap (λ (x : Report). x.told) (reported g q told c.in_ok-report.was)) ∙ c.in-Fits.is in
     let x = choice_row (g.B.Book.meaning c.run.new.self.book).n (ran g q) (length old) in
     let s = ap (λ b. choice_row (g.B.Book.meaning b).n (ran g q) (length old)) (kept g q).0 ∙ shows_choice (bench g q).book.n (ran g q) (length old) old v in
-    let e = ends_told (bench g q) c.args.holds.now c.args.budget (start g q) old (ran g q) x (ended g q told c.in-ok-report.was) s in
-    rw (p.1, p.2) (record { answer = done_err x c.in-err-choice.field-0.0 (report (ran g q)) (sym c.in-err-choice.was ∙ c.choice.ensures.answer) ∙ e.answer; after = e.after; shows = c.choice.ensures.after ∙ e.shows; kept = kept g q })
+    let e = ends_told (bench g q) c.args.holds.now c.args.budget (start g q) old (ran g q) x (ended g q told c.in_ok-report.was) s in
+    rw (p.1, p.2) (record { answer = done_err x c.in_err-choice-in-Fits.field-0.0 (report (ran g q)) (sym c.in_err-choice-in-Fits.was ∙ c.choice.ensures.answer) ∙ e.answer; after = e.after; shows = c.choice.ensures.after ∙ e.shows; kept = kept g q })
 
-pub returns-in-ok-choice : goal.returns-in-ok-choice
+pub returns-in_ok-choice-in-Fits : goal.returns-in_ok-choice-in-Fits
 unfolding bench start ran held
-returns-in-ok-choice g c =
-    let q = (goal.at.returns-in-ok-choice g c).After-run in
+returns-in_ok-choice-in-Fits g c =
+    let q = (goal.at.returns-in_ok-choice-in-Fits g c).After-run in
     let old = c.args.row.now in
-    let told = c.in-ok-report.report in
-    let r = reported g q told c.in-ok-report.was in
+    let told = c.in_ok-report.report in
+    let r = reported g q told c.in_ok-report.was in
     let v = sym (ap (λ (x : Report). x.told) r) ∙ c.in-Fits.is in
     let x = choice_row (g.B.Book.meaning c.run.new.self.book).n (ran g q) (length old) in
     let s = ap (λ b. choice_row (g.B.Book.meaning b).n (ran g q) (length old)) (kept g q).0 ∙ shows_choice (bench g q).book.n (ran g q) (length old) old v in
-    let e = ends_told (bench g q) c.args.holds.now c.args.budget (start g q) old (ran g q) x (ended g q told c.in-ok-report.was) s in
-    record { answer = ap Ok r ∙ done_ok x (report (ran g q)) (sym c.in-ok-choice.was ∙ c.choice.ensures.answer) ∙ e.answer; after = e.after; shows = c.choice.ensures.after ∙ e.shows; kept = kept g q }
+    let e = ends_told (bench g q) c.args.holds.now c.args.budget (start g q) old (ran g q) x (ended g q told c.in_ok-report.was) s in
+    record { answer = ap Ok r ∙ done_ok x (report (ran g q)) (sym c.in_ok-choice-in-Fits.was ∙ c.choice.ensures.answer) ∙ e.answer; after = e.after; shows = c.choice.ensures.after ∙ e.shows; kept = kept g q }
 
-pub returns-in-err-named : goal.returns-in-err-named
+pub returns-in_err-named-in-NoneFits : goal.returns-in_err-named-in-NoneFits
 unfolding bench start ran held
-returns-in-err-named g c =
-    let p = err_from_is_err_and c.from-residual-in-err-named.result c.from-residual-in-err-named.ensures.1 in
-    let q = (goal.at.returns-in-err-named g c).After-run in
+returns-in_err-named-in-NoneFits g c =
+    let p = err_from_is_err_and c.from_residual-in_err-named-in-NoneFits.result c.from_residual-in_err-named-in-NoneFits.ensures.1 in
+    let q = (goal.at.returns-in_err-named-in-NoneFits g c).After-run in
     let old = c.args.row.now in
-    let told = c.in-ok-report.report in
-    let v = sym (ap (λ (x : Report). x.told) (reported g q told c.in-ok-report.was)) ∙ c.in-NoneFits.is in
+    let told = c.in_ok-report.report in
+    let v = sym (ap (λ (x : Report). x.told) (reported g q told c.in_ok-report.was)) ∙ c.in-NoneFits.is in
     let x = named_row (g.B.Book.meaning c.run.new.self.book).n (ran g q) (length old) in
     let s = ap (λ b. named_row (g.B.Book.meaning b).n (ran g q) (length old)) (kept g q).0 ∙ shows_named (bench g q).book.n (ran g q) (length old) old v in
-    let e = ends_told (bench g q) c.args.holds.now c.args.budget (start g q) old (ran g q) x (ended g q told c.in-ok-report.was) s in
-    rw (p.1, p.2) (record { answer = done_err x c.in-err-named.field-0.0 (report (ran g q)) (sym c.in-err-named.was ∙ c.named.ensures.answer) ∙ e.answer; after = e.after; shows = c.named.ensures.after ∙ e.shows; kept = kept g q })
+    let e = ends_told (bench g q) c.args.holds.now c.args.budget (start g q) old (ran g q) x (ended g q told c.in_ok-report.was) s in
+    rw (p.1, p.2) (record { answer = done_err x c.in_err-named-in-NoneFits.field-0.0 (report (ran g q)) (sym c.in_err-named-in-NoneFits.was ∙ c.named.ensures.answer) ∙ e.answer; after = e.after; shows = c.named.ensures.after ∙ e.shows; kept = kept g q })
 
-pub returns-in-ok-named : goal.returns-in-ok-named
+pub returns-in_ok-named-in-NoneFits : goal.returns-in_ok-named-in-NoneFits
 unfolding bench start ran held
-returns-in-ok-named g c =
-    let q = (goal.at.returns-in-ok-named g c).After-run in
+returns-in_ok-named-in-NoneFits g c =
+    let q = (goal.at.returns-in_ok-named-in-NoneFits g c).After-run in
     let old = c.args.row.now in
-    let told = c.in-ok-report.report in
-    let r = reported g q told c.in-ok-report.was in
+    let told = c.in_ok-report.report in
+    let r = reported g q told c.in_ok-report.was in
     let v = sym (ap (λ (x : Report). x.told) r) ∙ c.in-NoneFits.is in
     let x = named_row (g.B.Book.meaning c.run.new.self.book).n (ran g q) (length old) in
     let s = ap (λ b. named_row (g.B.Book.meaning b).n (ran g q) (length old)) (kept g q).0 ∙ shows_named (bench g q).book.n (ran g q) (length old) old v in
-    let e = ends_told (bench g q) c.args.holds.now c.args.budget (start g q) old (ran g q) x (ended g q told c.in-ok-report.was) s in
-    record { answer = ap Ok r ∙ done_ok x (report (ran g q)) (sym c.in-ok-named.was ∙ c.named.ensures.answer) ∙ e.answer; after = e.after; shows = c.named.ensures.after ∙ e.shows; kept = kept g q }
+    let e = ends_told (bench g q) c.args.holds.now c.args.budget (start g q) old (ran g q) x (ended g q told c.in_ok-report.was) s in
+    record { answer = ap Ok r ∙ done_ok x (report (ran g q)) (sym c.in_ok-named-in-NoneFits.was ∙ c.named.ensures.answer) ∙ e.answer; after = e.after; shows = c.named.ensures.after ∙ e.shows; kept = kept g q }
 
 pub returns-in-Spent : goal.returns-in-Spent
 unfolding bench start ran held
 returns-in-Spent g c =
     let q = (goal.at.returns-in-Spent g c).After-run in
     let old = c.args.row.now in
-    let told = c.in-ok-report.report in
-    let r = reported g q told c.in-ok-report.was in
+    let told = c.in_ok-report.report in
+    let r = reported g q told c.in_ok-report.was in
     let n = (g.B.Book.meaning c.args.session.now.book).n in
     let v = sym (ap (λ (x : Report). x.told) r) ∙ c.in-Spent.is in
-    let e = ends_told (bench g q) c.args.holds.now c.args.budget (start g q) old (ran g q) (Ok old) (ended g q told c.in-ok-report.was) (shows_old n (ran g q) (length old) old v) in
+    let e = ends_told (bench g q) c.args.holds.now c.args.budget (start g q) old (ran g q) (Ok old) (ended g q told c.in_ok-report.was) (shows_old n (ran g q) (length old) old v) in
     record { answer = ap Ok r ∙ e.answer; after = e.after; shows = e.shows; kept = kept g q }

@@ -43,13 +43,13 @@ left : (g : Over) (c : After-hold g) → until (bench g c) (next g c ∷ holding
 unfolding next bench before
 left g c = sym (at_drop_more (λ r. until (bench g c) (holding r) (before g c)) c.args.holds.now c.loop-i.i _ (omega arith)) ∙ c.loop-i.invariant.0
 
-pub returns-in-err-hold : goal.returns-in-err-hold
+pub returns-in_err-hold : goal.returns-in_err-hold
 unfolding next bench before
-returns-in-err-hold g c =
-    let q = (goal.at.returns-in-err-hold g c).After-hold in
-    let p = err_from_is_err_and c.from-residual.result c.from-residual.ensures.1 in
-    let why = c.in-err-hold.field-0.0 in
-    let r = reply_err (refuses (bench g q) (before g q) (next g q)) tt why (sym c.in-err-hold.was ∙ (made g q).0) in
+returns-in_err-hold g c =
+    let q = (goal.at.returns-in_err-hold g c).After-hold in
+    let p = err_from_is_err_and c.from_residual.result c.from_residual.ensures.1 in
+    let why = c.in_err-hold.field-0.0 in
+    let r = reply_err (refuses (bench g q) (before g q) (next g q)) tt why (sym c.in_err-hold.was ∙ (made g q).0) in
     let e = sym (until_stop (bench g q) (next g q) (holding (drop (c.loop-i.i + 1) c.args.holds.now)) (before g q) why r) ∙ left g q in
     rw (p.1, p.2)
     (record {
@@ -62,7 +62,7 @@ pub loop-i-preserved : goal.loop-i-preserved
 unfolding next bench before
 loop-i-preserved g c =
     let q = (goal.at.loop-i-preserved g c).After-hold in
-    let r = (reply_ok (refuses (bench g q) (before g q) (next g q)) tt tt (sym c.in-ok-hold.was ∙ (made g q).0)).0 in
+    let r = (reply_ok (refuses (bench g q) (before g q) (next g q)) tt tt (sym c.in_ok-hold.was ∙ (made g q).0)).0 in
     let rest = holding (drop (c.loop-i.i + 1) c.args.holds.now) in (
       ap (until (bench g q) rest) (made g q).1 ∙ sym (until_on (bench g q) (next g q) rest (before g q) r) ∙ left g q,
       kept_more c.args.session.now c.loop-i.session c.hold.new.self c.loop-i.invariant.1 c.hold.ensures.kept,

@@ -25,17 +25,17 @@ free h m e =
     (leb-true _ _ b.0, (leb-true _ _ b.1, not-true _ a.1))
 
 pub bounds-self-self : goal.bounds-self-self
-bounds-self-self c = room c.args.self.now c.args.mark (free c.args.self.now c.args.mark c.if-not-can-hold.ensures)
+bounds-self-self c = room c.args.self.now c.args.mark (free c.args.self.now c.args.mark c.if-not-can_hold.ensures)
 
-pub invariant-of-self : goal.invariant-of-self
-invariant-of-self c =
+pub invariant_of-self : goal.invariant_of-self
+invariant_of-self c =
     let h = c.args.self.now in
-    let f = free h c.args.mark c.if-not-can-hold.ensures in
+    let f = free h c.args.mark c.if-not-can_hold.ensures in
     let r = room h c.args.mark f in
-    (length-set h.order h.len c.args.mark ∙ h.long, (omega (arith, r), (ap (sound_rule 120) (take_more_set h.order h.len c.args.mark (omega (arith, r, h.long))) ∙ more h c.args.mark f, tt)))
+    record { long = length-set h.order h.len c.args.mark ∙ h.long; short = omega (arith, r); sound = ap (sound_rule 120) (take_more_set h.order h.len c.args.mark (omega (arith, r, h.long))) ∙ more h c.args.mark f }
 
 pub returns : goal.returns
 returns c =
     let h = c.args.self.now in
-    let f = free h c.args.mark c.if-not-can-hold.ensures in
-    record { answer = c.if-not-can-hold.ensures; after = take_more_set h.order h.len c.args.mark (omega (arith, room h c.args.mark f, h.long)) }
+    let f = free h c.args.mark c.if-not-can_hold.ensures in
+    record { answer = c.if-not-can_hold.ensures; after = take_more_set h.order h.len c.args.mark (omega (arith, room h c.args.mark f, h.long)) }

@@ -9,7 +9,7 @@ use Rattle.holds.specs.Holding.{holds_of}
 use Rattle.trail.specs.Stacks.{trail_of}
 use Rattle.holds.proofs.Held.{hold_next, hold_end}
 use Rattle.holds.proofs.Firsts.{first_hit, first_miss, first_none, code_crossed, code_uncrossed}
-use Rattle.holds.proofs.Holds.crossed.Goals.{then-code+in-default, else-code}
+use Rattle.holds.proofs.Holds.crossed.Goals.{then-code+in_default, else-code}
 use Rattle.holds.proofs.Holds.crossed.Goals as goal
 
 crossed_in : Trail → Mark → Option Reason
@@ -33,7 +33,7 @@ loop-i-preserved c =
     let other = c.code.ensures ∙ ap code_of c.opposite.ensures in
     let on = λ (e : crossed_in t m ≡ None). sym (hold_next (first (crossed_in t)) h c.loop-i.i _ (omega arith) ∙ first_miss (crossed_in t) m (drop (c.loop-i.i + 1) (holds_of h)) e) ∙ c.loop-i.invariant in
     elim c.if-code.branch [
-      | then-code+in-default w ↦ on (code_crossed _ m.side (settled t m.part) (sym c.code-code.ensures ∙ w.if-code.true ∙ other) ∙ sym w.in-default.ensures)
+      | then-code+in_default w ↦ on (code_crossed _ m.side (settled t m.part) (sym c.code-code.ensures ∙ w.if-code.true ∙ other) ∙ sym w.in_default.ensures)
       | else-code w ↦ on (code_uncrossed _ m.side (settled t m.part) (λ e. w.if-code.false (c.code-code.ensures ∙ e ∙ sym other)))
     ]
 

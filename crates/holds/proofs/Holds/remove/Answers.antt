@@ -4,8 +4,8 @@ use Rattle.holds.specs.Holding.{holds_of}
 use Rattle.holds.proofs.Held.{released_sound}
 use Rattle.holds.proofs.Holds.remove.Goals as goal
 
-pub invariant-of-self : goal.invariant-of-self
-invariant-of-self c =
+pub invariant_of-self : goal.invariant_of-self
+invariant_of-self c =
     let h = c.args.self.now in
-    let e = c.close-up-self.ensures in
-    (e.long ∙ h.long, (omega (arith, e.few, h.short), (ap (sound_rule 120) e.after ∙ released_sound 120 c.args.part (holds_of h) h.sound, tt)))
+    let e = c.close_up-self.ensures in
+    record { long = e.long ∙ h.long; short = omega (arith, e.few, h.short); sound = ap (sound_rule 120) e.after ∙ released_sound 120 c.args.part (holds_of h) h.sound }

@@ -34,11 +34,11 @@ settled_code : (v : Option Side) → (code v ≡ 0 → ⊥) → false ≡ not (i
 settled_code None e = absurd (e refl)
 settled_code (Some s) e = refl
 
-pub loop-k-preserved-in-default : goal.loop-k-preserved-in-default
-loop-k-preserved-in-default g c =
+pub loop-k-preserved-in_default : goal.loop-k-preserved-in_default
+loop-k-preserved-in_default g c =
     let o = row_of (g.S.Shelf.meaning c.args.shelf.now) c.args.place in
     let n = marks_count o c.args.marks c.requires in
-    let q = c.in-default.ensures ∙ mark_there o c.loop-k.k (record { part = 0; side = In }) (omega arith) in
+    let q = c.in_default.ensures ∙ mark_there o c.loop-k.k (record { part = 0; side = In }) (omega arith) in
     let z : ◌≡◌ {A = ℕ} 0 1 = cc in
     absurd (omega arith)
 

@@ -5,15 +5,15 @@ use Rattle.lessons.proofs.place.first_empty.Goals as goal
 pub loop-i-init : goal.loop-i-init
 loop-i-init g c = starts (empty_at (g.S.Shelf.meaning c.args.shelf.now).rows) c.args.after c.args.count
 
-pub returns-then-is-empty : goal.returns-then-is-empty
-returns-then-is-empty g c =
+pub returns-then-is_empty : goal.returns-then-is_empty
+returns-then-is_empty g c =
     let rows = (g.S.Shelf.meaning c.args.shelf.now).rows in
-    sym (passes (empty_at rows) c.args.after c.args.count c.loop-i.i (omega arith) (sym c.if-is-empty.ensures)) ∙ c.loop-i.invariant
+    sym (passes (empty_at rows) c.args.after c.args.count c.loop-i.i (omega arith) (sym c.if-is_empty.ensures)) ∙ c.loop-i.invariant
 
 pub loop-i-preserved : goal.loop-i-preserved
 loop-i-preserved g c =
     let rows = (g.S.Shelf.meaning c.args.shelf.now).rows in
-    sym (fails (empty_at rows) c.args.after c.args.count c.loop-i.i (omega arith) (sym c.if-is-empty.ensures)) ∙ c.loop-i.invariant
+    sym (fails (empty_at rows) c.args.after c.args.count c.loop-i.i (omega arith) (sym c.if-is_empty.ensures)) ∙ c.loop-i.invariant
 
 pub returns : goal.returns
 returns g c =

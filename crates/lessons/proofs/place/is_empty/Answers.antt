@@ -40,7 +40,7 @@ flip a false e = sym (ap not e)
 pub returns-in-Ok : goal.returns-in-Ok
 returns-in-Ok g c =
     let s = c.args.shelf.now in
-    flip _ _ c.is-none.ensures ∙ ap says_empty c.in-Ok.ensures ∙ by_reply (g.S.Shelf.meaning s) (g.S.Shelf.sound s).some c.args.place
+    flip _ _ c.is_none.ensures ∙ ap says_empty c.in-Ok.ensures ∙ by_reply (g.S.Shelf.meaning s) (g.S.Shelf.sound s).some c.args.place
 
 pub returns-in-Err : goal.returns-in-Err
 returns-in-Err g c =

@@ -5,25 +5,25 @@ use Rattle.lessons.proofs.place.next_place.Goals as goal
 
 pub returns-in-Some : goal.returns-in-Some
 returns-in-Some g c =
-    place_by (g.S.Shelf.meaning c.args.shelf.now).rows c.args.last (trail_of c.args.trail.now) c.saturating-sub-ahead.result (omega arith)
+    place_by (g.S.Shelf.meaning c.args.shelf.now).rows c.args.last (trail_of c.args.trail.now) c.saturating_sub-ahead.result (omega arith)
     (Some c.in-Some.place) _ _ _ c.in-Some.ensures refl refl refl
 
-pub returns-in-Some-first-empty : goal.returns-in-Some-first-empty
-returns-in-Some-first-empty g c =
-    place_by (g.S.Shelf.meaning c.args.shelf.now).rows c.args.last (trail_of c.args.trail.now) c.saturating-sub-ahead.result (omega arith)
-    None (Some c.in-Some-first-empty.place) _ _ c.in-default.ensures c.in-Some-first-empty.ensures refl refl
+pub returns-in-Some-first_empty : goal.returns-in-Some-first_empty
+returns-in-Some-first_empty g c =
+    place_by (g.S.Shelf.meaning c.args.shelf.now).rows c.args.last (trail_of c.args.trail.now) c.saturating_sub-ahead.result (omega arith)
+    None (Some c.in-Some-first_empty.place) _ _ c.in_default.ensures c.in-Some-first_empty.ensures refl refl
 
-pub returns-in-Some-first-free : goal.returns-in-Some-first-free
-returns-in-Some-first-free g c =
-    place_by (g.S.Shelf.meaning c.args.shelf.now).rows c.args.last (trail_of c.args.trail.now) c.saturating-sub-ahead.result (omega arith)
-    None None (Some c.in-Some-first-free.place) _ c.in-default.ensures c.in-default-first-empty.ensures c.in-Some-first-free.ensures refl
+pub returns-in-Some-first_free : goal.returns-in-Some-first_free
+returns-in-Some-first_free g c =
+    place_by (g.S.Shelf.meaning c.args.shelf.now).rows c.args.last (trail_of c.args.trail.now) c.saturating_sub-ahead.result (omega arith)
+    None None (Some c.in-Some-first_free.place) _ c.in_default.ensures c.in_default-first_empty.ensures c.in-Some-first_free.ensures refl
 
-pub returns-in-Some-first-free-2 : goal.returns-in-Some-first-free-2
-returns-in-Some-first-free-2 g c =
-    place_by (g.S.Shelf.meaning c.args.shelf.now).rows c.args.last (trail_of c.args.trail.now) c.saturating-sub-ahead.result (omega arith)
-    None None None (Some c.in-Some-first-free-2.place) c.in-default.ensures c.in-default-first-empty.ensures c.in-default-first-free.ensures c.in-Some-first-free-2.ensures
+pub returns-in-Some-first_free-2 : goal.returns-in-Some-first_free-2
+returns-in-Some-first_free-2 g c =
+    place_by (g.S.Shelf.meaning c.args.shelf.now).rows c.args.last (trail_of c.args.trail.now) c.saturating_sub-ahead.result (omega arith)
+    None None None (Some c.in-Some-first_free-2.place) c.in_default.ensures c.in_default-first_empty.ensures c.in_default-first_free.ensures c.in-Some-first_free-2.ensures
 
 pub returns : goal.returns
 returns g c =
-    place_by (g.S.Shelf.meaning c.args.shelf.now).rows c.args.last (trail_of c.args.trail.now) c.saturating-sub-ahead.result (omega arith)
-    None None None None c.in-default.ensures c.in-default-first-empty.ensures c.in-default-first-free.ensures c.in-default-first-free-2.ensures
+    place_by (g.S.Shelf.meaning c.args.shelf.now).rows c.args.last (trail_of c.args.trail.now) c.saturating_sub-ahead.result (omega arith)
+    None None None None c.in_default.ensures c.in_default-first_empty.ensures c.in_default-first_free.ensures c.in_default-first_free-2.ensures

@@ -11,8 +11,8 @@ use Rattle.picker.proofs.ranked.first_open.Goals as goal
 abbrev none : Mark
 none = record { part = 0; side = In }
 
-pub overflow-sub-mark : goal.overflow-sub-mark
-overflow-sub-mark c = (All-get_or (Within (length c.args.row.now)) _ _ none c.loop-mark-test.true c.requires).0
+pub overflow_sub-mark : goal.overflow_sub-mark
+overflow_sub-mark c = (All-get_or (Within (length c.args.row.now)) _ _ none c.loop-mark-test.true c.requires).0
 
 pub bounds-row-mark : goal.bounds-row-mark
 bounds-row-mark c =

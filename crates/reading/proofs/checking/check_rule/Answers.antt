@@ -9,28 +9,28 @@ use Rattle.grammar.specs.Reading.{rule_of, limit}
 use Rattle.grammar.proofs.Marks.{Taken, taken_field}
 use Rattle.reading.proofs.RuleSteps.{rule_mark, shows_more, zero_bits}
 use Rattle.reading.proofs.checking.check_rule.Goals as goal
-use Rattle.reading.proofs.checking.check_rule.Goals.{After-unsigned-abs}
+use Rattle.reading.proofs.checking.check_rule.Goals.{After-unsigned_abs}
 
 -- what a field that passed tells
-taken : (c : After-unsigned-abs) → (signed (between c.in-Some.span.start c.in-Some.span.end c.args.line.now) ≡ Some c.in-ok-number.number) × Taken c.args.room c.args.place c.loop-span.invariant.2.0 c.in-ok-number.number
-taken c = taken_field c.args.room c.args.place c.loop-span.invariant.2.0 _ _ _ (sym (c.in-ok-number.ensures _ c.loop-span.invariant.2.1))
+taken : (c : After-unsigned_abs) → (signed (between c.in-Some.span.start c.in-Some.span.end c.args.line.now) ≡ Some c.in_ok-number.number) × Taken c.args.room c.args.place c.loop-span.invariant.2.0 c.in_ok-number.number
+taken c = taken_field c.args.room c.args.place c.loop-span.invariant.2.0 _ _ _ (sym (c.in_ok-number.ensures _ c.loop-span.invariant.2.1))
 
-part_is : (c : After-unsigned-abs) → c.unsigned-abs.result ≡ nat_abs c.in-ok-number.number
+part_is : (c : After-unsigned_abs) → c.unsigned_abs.result ≡ nat_abs c.in_ok-number.number
 part_is c =
-    let f : SFits w32 c.in-ok-number.number = search rules in
-    c.unsigned-abs.ensures.value ∙ ap nat_abs (to_z-of_z w32 c.in-ok-number.number f)
+    let f : SFits w32 c.in_ok-number.number = search rules in
+    c.unsigned_abs.ensures.value ∙ ap nat_abs (to_z-of_z w32 c.in_ok-number.number f)
 
-room_left : (c : After-unsigned-abs) → c.args.place.used + length c.loop-span.invariant.2.0 < limit c.args.room.marks
-room_left c = (taken c).1.fits (λ e. c.if-number-eq0.false (zero_bits c.in-ok-number.number e))
+room_left : (c : After-unsigned_abs) → c.args.place.used + length c.loop-span.invariant.2.0 < limit c.args.room.marks
+room_left c = (taken c).1.fits (λ e. c.if-number-eq0.false (zero_bits c.in_ok-number.number e))
 
 pub add-requires : goal.add-requires
 add-requires c = (omega (arith, part_is c, (taken c).1.within), omega (arith, room_left c, c.loop-span.invariant.2.1.count_is))
 
 pub loop-span-preserved : goal.loop-span-preserved
 loop-span-preserved c =
-    let d = (goal.at.loop-span-preserved c).After-unsigned-abs in
+    let d = (goal.at.loop-span-preserved c).After-unsigned_abs in
     let marks = c.loop-span.invariant.2.0 in
-    let z = c.in-ok-number.number in
+    let z = c.in_ok-number.number in
     let line = c.args.line.now in
     let end = c.in-Some.span.end in (
       c.in-Some.ensures.within,

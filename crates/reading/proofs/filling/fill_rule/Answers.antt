@@ -8,8 +8,8 @@ use Rattle.reading.proofs.RuleSteps.{zero_bits}
 use Rattle.reading.proofs.Stores.{stored_stop, stored_zero, stored_mark, goes_all, bits_zero, short}
 use Rattle.reading.proofs.filling.fill_rule.Goals as goal
 
-pub returns-in-default-signed : goal.returns-in-default-signed
-returns-in-default-signed c = let e = stored_stop c.in-Some.ensures.first c.in-default-signed.ensures.value in record { value = omega (arith, ap length e, c.loop-span.invariant.2); front = goes_all _ _ _ _ _ _ e c.loop-span.invariant.3 }
+pub returns-in_default-signed : goal.returns-in_default-signed
+returns-in_default-signed c = let e = stored_stop c.in-Some.ensures.first c.in_default-signed.ensures.value in record { value = omega (arith, ap length e, c.loop-span.invariant.2); front = goes_all _ _ _ _ _ _ e c.loop-span.invariant.3 }
 
 pub returns-then-number-eq0 : goal.returns-then-number-eq0
 returns-then-number-eq0 c =
@@ -33,4 +33,4 @@ loop-span-preserved c =
     )
 
 pub returns : goal.returns
-returns c = let e = ap stored c.in-default.ensures in record { value = omega (arith, ap length e, c.loop-span.invariant.2); front = goes_all _ _ _ _ _ _ e c.loop-span.invariant.3 }
+returns c = let e = ap stored c.in_default.ensures in record { value = omega (arith, ap length e, c.loop-span.invariant.2); front = goes_all _ _ _ _ _ _ e c.loop-span.invariant.3 }

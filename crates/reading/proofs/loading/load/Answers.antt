@@ -9,33 +9,33 @@ use Rattle.reading.proofs.Replied.{fault_told}
 use Rattle.reading.proofs.loading.load.Goals as goal
 use Rattle.reading.proofs.loading.load.Goals.{After-read, After-lay}
 
-pub returns-in-err-marks : goal.returns-in-err-marks
-returns-in-err-marks c = let p = err_from_is_err_and c.from-residual.result c.from-residual.ensures.1 in rw (p.1, p.2) tt
+pub returns-in_err-marks : goal.returns-in_err-marks
+returns-in_err-marks c = let p = err_from_is_err_and c.from_residual.result c.from_residual.ensures.1 in rw (p.1, p.2) tt
 
-pub returns-in-err-ends : goal.returns-in-err-ends
-returns-in-err-ends c = let p = err_from_is_err_and c.from-residual-in-err-ends.result c.from-residual-in-err-ends.ensures.1 in rw (p.1, p.2) tt
+pub returns-in_err-ends : goal.returns-in_err-ends
+returns-in_err-ends c = let p = err_from_is_err_and c.from_residual-in_err-ends.result c.from_residual-in_err-ends.ensures.1 in rw (p.1, p.2) tt
 
 -- the tables are as long as was asked for
-marks_long : (c : After-read) → length c.deref-mut.result.now ≡ 16000
-marks_long c = c.deref-mut.ensures.len ∙ c.in-ok-marks.ensures.len
+marks_long : (c : After-read) → length c.deref_mut.result.now ≡ 16000
+marks_long c = c.deref_mut.ensures.len ∙ c.in_ok-marks.ensures.len
 
-ends_long : (c : After-read) → length c.deref-mut-2.result.now ≡ 4000
-ends_long c = c.deref-mut-2.ensures.len ∙ c.in-ok-ends.ensures.len
+ends_long : (c : After-read) → length c.deref_mut-2.result.now ≡ 4000
+ends_long c = c.deref_mut-2.ensures.len ∙ c.in_ok-ends.ensures.len
 
-full : (c : After-read) → read_of 16000 4000 c.args.text.now ≡ read_of (length c.deref-mut.result.now) (length c.deref-mut-2.result.now) c.args.text.now
-full c = sym (ap (λ k. read_of k (length c.deref-mut-2.result.now) c.args.text.now) (marks_long c) ∙ ap (λ k. read_of 16000 k c.args.text.now) (ends_long c))
+full : (c : After-read) → read_of 16000 4000 c.args.text.now ≡ read_of (length c.deref_mut.result.now) (length c.deref_mut-2.result.now) c.args.text.now
+full c = sym (ap (λ k. read_of k (length c.deref_mut-2.result.now) c.args.text.now) (marks_long c) ∙ ap (λ k. read_of 16000 k c.args.text.now) (ends_long c))
 
-pub returns-in-err-size : goal.returns-in-err-size
-returns-in-err-size c =
-    let p = err_from_is_err_and c.from-residual-in-err-size.result c.from-residual-in-err-size.ensures.1 in
-    rw (p.1, p.2) (full (goal.at.returns-in-err-size c).After-read ∙ fault_told _ _ c.in-err-size.ensures.reply)
+pub returns-in_err-size : goal.returns-in_err-size
+returns-in_err-size c =
+    let p = err_from_is_err_and c.from_residual-in_err-size.result c.from_residual-in_err-size.ensures.1 in
+    rw (p.1, p.2) (full (goal.at.returns-in_err-size c).After-read ∙ fault_told _ _ c.in_err-size.ensures.reply)
 
 -- the vectors hold what the reading left
-marks_are : (c : After-lay) → (with_items c.in-ok-marks.marks c.read.new.marks).items ≡ c.read.new.marks
-marks_are c = with_items_is c.in-ok-marks.marks _ (c.read.auto.marks ∙ c.deref-mut.ensures.len)
+marks_are : (c : After-lay) → (with_items c.in_ok-marks.marks c.read.new.marks).items ≡ c.read.new.marks
+marks_are c = with_items_is c.in_ok-marks.marks _ (c.read.auto.marks ∙ c.deref_mut.ensures.len)
 
-ends_are : (c : After-lay) → (with_items c.in-ok-ends.ends c.read.new.ends).items ≡ c.read.new.ends
-ends_are c = with_items_is c.in-ok-ends.ends _ (c.read.auto.ends ∙ c.deref-mut-2.ensures.len)
+ends_are : (c : After-lay) → (with_items c.in_ok-ends.ends c.read.new.ends).items ≡ c.read.new.ends
+ends_are c = with_items_is c.in_ok-ends.ends _ (c.read.auto.ends ∙ c.deref_mut-2.ensures.len)
 
 -- two lists in place of two others
 swapped : {X : Type 0} (f : List ℤ → List ℕ → X) {ms ms' : List ℤ} {es es' : List ℕ} → ms ≡ ms' → es ≡ es' → f ms es ≡ f ms' es'
@@ -47,12 +47,12 @@ same_laid {n} {n'} {m} {m'} {ms} {ms'} {es} {es'} a b p q = ap (λ k. laid_rules
 pub unreachable-requires : goal.unreachable-requires
 unreachable-requires c =
     let d = (goal.at.unreachable-requires c).After-lay in
-    let size = c.in-ok-size.size in
-    both_ways _ (sym (swapped (lays size.n size.m) (marks_are d) (ends_are d)) ∙ c.in-Err.ensures.0) c.in-ok-size.ensures.lays.0
+    let size = c.in_ok-size.size in
+    both_ways _ (sym (swapped (lays size.n size.m) (marks_are d) (ends_are d)) ∙ c.in-Err.ensures.0) c.in_ok-size.ensures.lays.0
 
 pub returns : goal.returns
 returns c =
     let d = (goal.at.returns c).After-lay in
     let e = c.in-Ok.ensures in
-    full (goal.at.returns c).After-read ∙ c.in-ok-size.ensures.lays.1
+    full (goal.at.returns c).After-read ∙ c.in_ok-size.ensures.lays.1
     ∙ ap Ok (sym (same_laid e.1 e.2 (ap vec_items e.3 ∙ marks_are d) (ap vec_items e.4 ∙ ends_are d)))

@@ -12,8 +12,8 @@ use Rattle.session.proofs.Session.ask.Given.{Over}
 use Rattle.session.proofs.Session.ask.Goals.{After-pick}
 use Rattle.session.proofs.Session.ask.Goals as goal
 
-pub slice-bounds-pick-end : goal.slice-bounds-pick-end
-slice-bounds-pick-end g c =
+pub slice_bounds-pick-end : goal.slice_bounds-pick-end
+slice_bounds-pick-end g c =
     sym (length-take-le c.n-n.result c.row.result.now (omega (arith, ap length c.row.ensures, length_row 120 (trail_of c.args.self.now.trail), c.n-n.ensures, (g.B.Book.sound c.args.self.now.book).few)))
 
 -- the picker is asked with the settled row of n parts

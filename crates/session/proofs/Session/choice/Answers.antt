@@ -11,13 +11,13 @@ use Rattle.session.specs.View.{machine_of, verdict_of, filled, done}
 use Rattle.trail.proofs.Stacking.{row_front}
 use Rattle.session.proofs.Session.choice.Goals as goal
 
-pub slice-bounds-copy-from-slice-end : goal.slice-bounds-copy-from-slice-end
-slice-bounds-copy-from-slice-end g c =
+pub slice_bounds-copy_from_slice-end : goal.slice_bounds-copy_from_slice-end
+slice_bounds-copy_from_slice-end g c =
     let t = trail_of c.args.self.now.trail in
     sym (length-take-le c.n-n.result c.row.result.now (omega (arith, ap length c.row.ensures, length_row 120 t, c.n-n.ensures, (g.B.Book.sound c.args.self.now.book).few)))
 
-pub copy-from-slice-requires : goal.copy-from-slice-requires
-copy-from-slice-requires g c = c.if-row-n.false ∙ slice-bounds-copy-from-slice-end g c
+pub copy_from_slice-requires : goal.copy_from_slice-requires
+copy_from_slice-requires g c = c.if-row-n.false ∙ slice_bounds-copy_from_slice-end g c
 
 -- a standing "fits" is told of a row of n
 pub returns : goal.returns
@@ -31,5 +31,5 @@ returns g c =
     let few = (g.B.Book.sound s.book).few in
     record {
       answer = ap done (sym e);
-      after = c.copy-from-slice.ensures.after ∙ ap (take c.n-n.result) c.row.ensures ∙ ap (λ k. take k (row 120 t)) c.n-n.ensures ∙ row_front n t few ∙ ap (λ r. filled r c.args.row.now) (sym e);
+      after = c.copy_from_slice.ensures.after ∙ ap (take c.n-n.result) c.row.ensures ∙ ap (λ k. take k (row 120 t)) c.n-n.ensures ∙ row_front n t few ∙ ap (λ r. filled r c.args.row.now) (sym e);
     }

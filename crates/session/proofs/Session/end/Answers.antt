@@ -12,6 +12,6 @@ returns g c =
     let hs = holds_of s.holds in
     record {
       after = same _ _ refl c.requires.1 refl refl (add-one s.steps) (add-one s.turns)
-          (ap none_fits (ap (take n) (c.name-into.ensures ∙ ap (λ k. named_holds k c.args.work.now hs) s.wide) ∙ named_front n 120 c.args.work.now hs (g.B.Book.sound s.book).few));
+          (ap none_fits (ap (take n) (c.name_into.ensures ∙ ap (λ k. named_holds k c.args.work.now hs) s.wide) ∙ named_front n 120 c.args.work.now hs (g.B.Book.sound s.book).few));
       kept = (refl, refl, refl);
     }

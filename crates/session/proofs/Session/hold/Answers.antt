@@ -9,26 +9,26 @@ use Rattle.session.proofs.Session.hold.Given.{Over}
 use Rattle.session.proofs.Session.hold.Goals.{After-add}
 use Rattle.session.proofs.Session.hold.Goals as goal
 
-pub returns-then-no-part : goal.returns-then-no-part
-returns-then-no-part g c =
+pub returns-then-no_part : goal.returns-then-no_part
+returns-then-no_part g c =
     let s = c.args.self.now in
     let b = bench_of g.B.Book.meaning g.P.Picker.meaning s in
     let m = machine_of g.B.Book.meaning g.S.Shelf.meaning s in
-    let r = refused b m (hold c.args.part c.args.code) _ (hold_out b m c.args.part c.args.code (sym c.if-no-part.ensures)) in
+    let r = refused b m (hold c.args.part c.args.code) _ (hold_out b m c.args.part c.args.code (sym c.if-no_part.ensures)) in
     record { answer = r.answer; after = r.after; kept = (refl, refl, refl) }
 
-pub returns-in-default : goal.returns-in-default
-returns-in-default g c =
+pub returns-in_default : goal.returns-in_default
+returns-in_default g c =
     let s = c.args.self.now in
     let b = bench_of g.B.Book.meaning g.P.Picker.meaning s in
     let m = machine_of g.B.Book.meaning g.S.Shelf.meaning s in
-    let r = refused b m (hold c.args.part c.args.code) _ (hold_on b m c.args.part c.args.code (sym c.if-no-part.ensures) None c.in-default.ensures _ refl) in
+    let r = refused b m (hold c.args.part c.args.code) _ (hold_on b m c.args.part c.args.code (sym c.if-no_part.ensures) None c.in_default.ensures _ refl) in
     record { answer = r.answer; after = r.after; kept = (refl, refl, refl) }
 
 -- a part of the n may be held where it is not
 unheld : (g : Over) (c : After-add g) (r : Bool) → c.add.result ≡ r → not r ≡ names (holds_of c.args.self.now.holds) c.args.part
 unheld g c r e =
-    let p = part_in (g.B.Book.meaning c.args.self.now.book).n c.args.part (sym c.if-no-part.ensures) in
+    let p = part_in (g.B.Book.meaning c.args.self.now.book).n c.args.part (sym c.if-no_part.ensures) in
     may_hold (holds_of c.args.self.now.holds) (record { part = c.args.part; side = c.in-Some.side }) r p.0 (omega (arith, p.1, (g.B.Book.sound c.args.self.now.book).few)) (sym e ∙ c.add.ensures.answer)
 
 pub returns-then-not-add : goal.returns-then-not-add
@@ -37,7 +37,7 @@ returns-then-not-add g c =
     let b = bench_of g.B.Book.meaning g.P.Picker.meaning s in
     let m = machine_of g.B.Book.meaning g.S.Shelf.meaning s in
     let q = (goal.at.returns-then-not-add g c).After-add in
-    let r = refused b m (hold c.args.part c.args.code) _ (hold_on b m c.args.part c.args.code (sym c.if-no-part.ensures) (Some c.in-Some.side) c.in-Some.ensures true (unheld g q false c.if-not-add.true)) in
+    let r = refused b m (hold c.args.part c.args.code) _ (hold_on b m c.args.part c.args.code (sym c.if-no_part.ensures) (Some c.in-Some.side) c.in-Some.ensures true (unheld g q false c.if-not-add.true)) in
     let same = c.add.ensures.after ∙ ap (λ (v : Bool). cond v (holds_of s.holds ++ (record { part = c.args.part; side = c.in-Some.side } ∷ [])) (holds_of s.holds)) c.if-not-add.true in
     record { answer = r.answer; after = ap (λ hs. record { holds = hs; trail = m.trail; shelf = m.shelf; last = m.last; steps = m.steps; turns = m.turns; verdict = m.verdict }) same ∙ r.after; kept = (refl, refl, refl) }
 
@@ -49,7 +49,7 @@ returns g c =
     let m = machine_of g.B.Book.meaning g.S.Shelf.meaning s in
     let call = hold c.args.part c.args.code in
     let q = (goal.at.returns g c).After-add in
-    let none = hold_on b m c.args.part c.args.code (sym c.if-no-part.ensures) (Some c.in-Some.side) c.in-Some.ensures false (unheld g q true c.if-not-add.false) in
+    let none = hold_on b m c.args.part c.args.code (sym c.if-no_part.ensures) (Some c.in-Some.side) c.in-Some.ensures false (unheld g q true c.if-not-add.false) in
     let more = put _ _ c.add.result c.if-not-add.false c.add.ensures.after in
     let r = allowed b m call _ none (c.restart.ensures.after ∙ ap (restarted m) more ∙ hold_does b m c.args.part c.args.code c.in-Some.side c.in-Some.ensures) in
     record { answer = r.answer; after = r.after; kept = c.restart.ensures.kept }

@@ -24,10 +24,10 @@ returns g c =
     let bp = sym c.n-n.ensures ∙ c.if-n.false ∙ c.n.ensures in
     let bs = sym c.n-n.ensures ∙ c.if-n-2.false ∙ c.n-else-n.ensures in (
       ap (λ (v : Bool). if_so (not v) OpenPartsDiffer (if_so (not (in_range c.args.forget)) ForgettingOutOfRange None)) (and_from (eqb b.n p.n) (eqb b.n s.n) (eq-eqb _ _ bp) (eq-eqb _ _ bs))
-          ∙ ap (λ (v : Bool). if_so (not v) ForgettingOutOfRange None) (sym c.if-not-in-range.ensures),
+          ∙ ap (λ (v : Bool). if_so (not v) ForgettingOutOfRange None) (sym c.if-not-in_range.ensures),
       refl,
       refl,
       refl,
-      fresh_is _ _ _ _ _ _ c.empty.ensures c.empty-2.ensures c.clear-all.ensures,
+      fresh_is _ _ _ _ _ _ c.empty.ensures c.empty-2.ensures c.clear_all.ensures,
       record { book = g.B.Book.sound c.args.book; picker = g.P.Picker.sound c.args.picker; shelf = g.S.Shelf.sound c.args.shelf; same_picker = sym bp; same_shelf = sym bs },
     )

@@ -5,7 +5,7 @@ use Rattle.search.specs.Machine.{Machine, run, step}
 use Rattle.search.proofs.Leaving.{run_told_same}
 use Rattle.session.specs.View.{bench_of, machine_of}
 use Rattle.session.proofs.Runs.{run_more, run_done, step_steps, untold, kept_more, bench_same, run_refused, run_allowed, budget_out, budget_in}
-use Rattle.session.proofs.Session.run.Goals.{else-not-stands-via-then-not-stands+else-self-budget-gt-MOST-STEPS, else-not-stands-via-else-not-stands, else-loop-i-test, then-loop-i-test+then-stands}
+use Rattle.session.proofs.Session.run.Goals.{else-not-stands-via-then-not-stands+else-self-budget-gt-MOST_STEPS, else-not-stands-via-else-not-stands, else-loop-i-test, then-loop-i-test+then-stands}
 use Rattle.session.proofs.Session.run.Goals as goal
 
 pub returns-then-budget-eq0 : goal.returns-then-budget-eq0
@@ -15,11 +15,11 @@ returns-then-budget-eq0 g c =
     let r = run_refused b m c.args.budget _ (budget_out b m c.args.budget c.then-budget-eq0.either) in
     record { answer = r.answer; after = r.after; kept = (refl, refl, refl); law = r.law }
 
-pub returns-then-self-budget-gt-MOST-STEPS : goal.returns-then-self-budget-gt-MOST-STEPS
-returns-then-self-budget-gt-MOST-STEPS g c =
+pub returns-then-self-budget-gt-MOST_STEPS : goal.returns-then-self-budget-gt-MOST_STEPS
+returns-then-self-budget-gt-MOST_STEPS g c =
     let b = bench_of g.B.Book.meaning g.P.Picker.meaning c.args.self.now in
     let m = machine_of g.B.Book.meaning g.S.Shelf.meaning c.args.self.now in
-    let r = run_refused b m c.args.budget _ (budget_in b m c.args.budget c.if-budget-eq0.false c.if-budget-gt-MOST-BUDGET.false false (sym c.if-not-stands.true ∙ c.stands.ensures) true (lt-ltb _ _ c.if-self-budget-gt-MOST-STEPS.true)) in
+    let r = run_refused b m c.args.budget _ (budget_in b m c.args.budget c.if-budget-eq0.false c.if-budget-gt-MOST_BUDGET.false false (sym c.if-not-stands.true ∙ c.stands.ensures) true (lt-ltb _ _ c.if-self-budget-gt-MOST_STEPS.true)) in
     record { answer = r.answer; after = r.after; kept = (refl, refl, refl); law = r.law }
 
 pub step-requires : goal.step-requires
@@ -37,7 +37,7 @@ loop-i-init g c =
       (refl, refl, refl),
       λ h.
           elim c.else-not-stands.branch [
-            | else-not-stands-via-then-not-stands+else-self-budget-gt-MOST-STEPS w ↦ omega (arith, w.if-self-budget-gt-MOST-STEPS.false)
+            | else-not-stands-via-then-not-stands+else-self-budget-gt-MOST_STEPS w ↦ omega (arith, w.if-self-budget-gt-MOST_STEPS.false)
             | else-not-stands-via-else-not-stands w ↦ absurd (true≢false (sym w.if-not-stands.false ∙ c.stands.ensures ∙ h))
           ],
     )
@@ -63,8 +63,8 @@ returns g c =
     let t = machine_of g.B.Book.meaning g.S.Shelf.meaning c.loop-i.self in
     let k = c.args.budget in
     let none : refuses b m (run_for k) ≡ None = elim c.else-not-stands.branch [
-      | else-not-stands-via-then-not-stands+else-self-budget-gt-MOST-STEPS w ↦ budget_in b m k c.if-budget-eq0.false c.if-budget-gt-MOST-BUDGET.false false (sym w.if-not-stands.true ∙ c.stands.ensures) false (le-ltb _ _ w.if-self-budget-gt-MOST-STEPS.false)
-      | else-not-stands-via-else-not-stands w ↦ budget_in b m k c.if-budget-eq0.false c.if-budget-gt-MOST-BUDGET.false true (sym w.if-not-stands.false ∙ c.stands.ensures) _ refl
+      | else-not-stands-via-then-not-stands+else-self-budget-gt-MOST_STEPS w ↦ budget_in b m k c.if-budget-eq0.false c.if-budget-gt-MOST_BUDGET.false false (sym w.if-not-stands.true ∙ c.stands.ensures) false (le-ltb _ _ w.if-self-budget-gt-MOST_STEPS.false)
+      | else-not-stands-via-else-not-stands w ↦ budget_in b m k c.if-budget-eq0.false c.if-budget-gt-MOST_BUDGET.false true (sym w.if-not-stands.false ∙ c.stands.ensures) _ refl
     ] in
     let end : t ≡ run b k m = elim c.loop-i-test.branch [
       | else-loop-i-test v ↦ sym (run_done b k c.loop-i.i t v.loop-i-test.false) ∙ c.loop-i.invariant.0

@@ -9,7 +9,7 @@ unfolding step
 returns-in-TurnOn g c =
     let b = bench_of g.B.Book.meaning g.P.Picker.meaning c.args.self.now in
     let m = machine_of g.B.Book.meaning g.S.Shelf.meaning c.args.self.now in
-    record { after = c.turn-on.ensures.after ∙ ap (act b m) c.in-TurnOn.ensures.looked; kept = c.turn-on.ensures.kept }
+    record { after = c.turn_on.ensures.after ∙ ap (act b m) c.in-TurnOn.ensures.looked; kept = c.turn_on.ensures.kept }
 
 pub settle-requires : goal.settle-requires
 settle-requires g c = (c.requires.0, (c.requires.1, c.in-Force.ensures.free))

@@ -16,11 +16,11 @@ use Rattle.session.proofs.Session.turn_on.Goals as goal
 rules : (g : Over) (c : After-turn g) → Reason → Option Rule
 rules g c = rule_at (g.B.Book.meaning c.args.self.now.book).rules (g.S.Shelf.meaning c.args.self.now.shelf).rows
 
-entered : (g : Over) (c : After-turn g) → c.enter-reason.new.row ≡ enter (replicate (g.B.Book.meaning c.args.self.now.book).n 0) (marks_at (rules g c c.args.reason))
+entered : (g : Over) (c : After-turn g) → c.enter_reason.new.row ≡ enter (replicate (g.B.Book.meaning c.args.self.now.book).n 0) (marks_at (rules g c c.args.reason))
 unfolding rules
 entered g c =
     let n = (g.B.Book.meaning c.args.self.now.book).n in
-    let e : c.enter-reason.new.row ≡ enter (take c.n-n.result (replicate 120 0)) (marks_at (rules g c c.args.reason)) = c.enter-reason.ensures.after in
+    let e : c.enter_reason.new.row ≡ enter (take c.n-n.result (replicate 120 0)) (marks_at (rules g c c.args.reason)) = c.enter_reason.ensures.after in
     e ∙ ap (λ k. enter (take k (replicate 120 0)) (marks_at (rules g c c.args.reason))) c.n-n.ensures
     ∙ ap (λ r. enter r (marks_at (rules g c c.args.reason))) (take_zeros n 120 (g.B.Book.sound c.args.self.now.book).few)
 
@@ -29,7 +29,7 @@ turns : (g : Over) (c : After-turn g) (r : Option Mark) → c.turn.result ≡ r
     → outcome r c.turn.new.row (trail_of c.turn.new.trail) ≡ turn (rules g c) (enter (replicate (g.B.Book.meaning c.args.self.now.book).n 0) (marks_at (rules g c c.args.reason))) (trail_of c.args.self.now.trail)
 unfolding rules
 turns g c r is =
-    let e : outcome c.turn.result c.turn.new.row (trail_of c.turn.new.trail) ≡ turn (rules g c) c.enter-reason.new.row (trail_of c.args.self.now.trail) = c.turn.ensures.turned in
+    let e : outcome c.turn.result c.turn.new.row (trail_of c.turn.new.trail) ≡ turn (rules g c) c.enter_reason.new.row (trail_of c.args.self.now.trail) = c.turn.ensures.turned in
     ap (λ o. outcome o c.turn.new.row (trail_of c.turn.new.trail)) (sym is) ∙ e ∙ ap (λ w. turn (rules g c) w (trail_of c.args.self.now.trail)) (entered g c)
 
 pub learn-requires : goal.learn-requires

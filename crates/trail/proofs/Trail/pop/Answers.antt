@@ -20,20 +20,20 @@ stands s h = stacked_pop s.entries s.len _ (omega arith) (omega (arith, s.short,
 tells : (s : Trail) → (s.len ≡ 0 → ⊥) → Top (top s) (stacked s.entries (s.len - 1))
 tells s h = top_apart _ _ (sym (ap apart (stands s h)) ∙ s.apart)
 
-pub overflow-sub-self-2 : goal.overflow-sub-self-2
+pub overflow_sub-self-2 : goal.overflow_sub-self-2
 unfolding top
-overflow-sub-self-2 c = (tells c.args.self.now c.if-self-eq0.false).low
+overflow_sub-self-2 c = (tells c.args.self.now c.if-self-eq0.false).low
 
 pub bounds-self-entry : goal.bounds-self-entry
 unfolding top
 bounds-self-entry c = let t = tells c.args.self.now c.if-self-eq0.false in omega (arith, t.low, t.high)
 
-pub invariant-of-self : goal.invariant-of-self
+pub invariant_of-self : goal.invariant_of-self
 unfolding top
-invariant-of-self c =
+invariant_of-self c =
     let s = c.args.self.now in
     let t = tells s c.if-self-eq0.false in
-    (s.long, (omega (arith, s.short), (t.rest, (ap (λ r. set r ((top s).mark.part - 1) 0) (s.shows ∙ ap (row 120) (stands s c.if-self-eq0.false)) ∙ row_pop (top s) _ t.low t.high t.new, tt))))
+    record { long = s.long; short = omega (arith, s.short); apart = t.rest; shows = ap (λ r. set r ((top s).mark.part - 1) 0) (s.shows ∙ ap (row 120) (stands s c.if-self-eq0.false)) ∙ row_pop (top s) _ t.low t.high t.new }
 
 pub returns : goal.returns
 unfolding top

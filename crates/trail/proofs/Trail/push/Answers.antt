@@ -25,35 +25,28 @@ free s m e =
     let p : 1 + (m.part - 1) ≡ m.part = omega arith in
     (lo, hi, ap (λ r. get_or r (m.part - 1) 0) s.shows ∙ row_at 120 (trail_of s) (m.part - 1) (omega arith) ∙ ap (λ q. code (settled (trail_of s) q)) p ∙ ap code none)
 
-pub overflow-sub-self : goal.overflow-sub-self
-overflow-sub-self c = (free c.args.self.now c.args.mark (sym c.if-not-can-push.ensures)).0
+pub overflow_sub-self : goal.overflow_sub-self
+overflow_sub-self c = (free c.args.self.now c.args.mark (sym c.if-not-can_push.ensures)).0
 
 pub bounds-self-self : goal.bounds-self-self
-bounds-self-self c = let (lo, hi, o) = free c.args.self.now c.args.mark (sym c.if-not-can-push.ensures) in room c.args.self.now c.args.mark lo hi o
+bounds-self-self c = let (lo, hi, o) = free c.args.self.now c.args.mark (sym c.if-not-can_push.ensures) in room c.args.self.now c.args.mark lo hi o
 
-pub invariant-of-self : goal.invariant-of-self
-invariant-of-self c =
+pub invariant_of-self : goal.invariant_of-self
+invariant_of-self c =
     let s = c.args.self.now in
-    let (lo, hi, o) = free s c.args.mark (sym c.if-not-can-push.ensures) in
+    let (lo, hi, o) = free s c.args.mark (sym c.if-not-can_push.ensures) in
     let k = room s c.args.mark lo hi o in
     let e : Entry = record { mark = c.args.mark; kind = c.args.kind } in
-    let t = stacked_push s.entries s.len e (omega (arith, k, s.long)) in (
-      length-set s.entries s.len e ∙ s.long,
-      (
-        omega (arith, k),
-        (
-          ap apart t ∙ pushed s c.args.mark lo hi o,
-          (
-            ap (λ r. set r (c.args.mark.part - 1) c.code.result) s.shows ∙ ap (set (row 120 (stacked s.entries s.len)) (c.args.mark.part - 1)) c.code.ensures
-                ∙ sym (ap (row 120) t ∙ row_push e (stacked s.entries s.len) lo hi),
-            tt,
-          ),
-        ),
-      ),
-    )
+    let t = stacked_push s.entries s.len e (omega (arith, k, s.long)) in record {
+      long = length-set s.entries s.len e ∙ s.long;
+      short = omega (arith, k);
+      apart = ap apart t ∙ pushed s c.args.mark lo hi o;
+      shows = ap (λ r. set r (c.args.mark.part - 1) c.code.result) s.shows ∙ ap (set (row 120 (stacked s.entries s.len)) (c.args.mark.part - 1)) c.code.ensures
+          ∙ sym (ap (row 120) t ∙ row_push e (stacked s.entries s.len) lo hi);
+    }
 
 pub returns : goal.returns
 returns c =
     let s = c.args.self.now in
-    let (lo, hi, o) = free s c.args.mark (sym c.if-not-can-push.ensures) in
-    record { answer = c.if-not-can-push.ensures; after = stacked_push s.entries s.len _ (omega (arith, room s c.args.mark lo hi o, s.long)) }
+    let (lo, hi, o) = free s c.args.mark (sym c.if-not-can_push.ensures) in
+    record { answer = c.if-not-can_push.ensures; after = stacked_push s.entries s.len _ (omega (arith, room s c.args.mark lo hi o, s.long)) }

@@ -3,8 +3,8 @@ use Rattle.parts.specs.Codes.{is_row}
 use Rattle.picker.proofs.Ranks.{row_within, first_picked}
 use Rattle.picker.proofs.ranked.RankedPicker.pick.Goals as goal
 
-pub first-open-requires : goal.first-open-requires
-first-open-requires c =
+pub first_open-requires : goal.first_open-requires
+first_open-requires c =
     let ms = vec_items c.args.self.now.list in
     let r : is_row (length ms) c.args.row.now ≡ true = grind arith in
     row_within _ ms _ c.args.self.now.ranked r c.deref.ensures.value

@@ -4,16 +4,16 @@ use Rattle.writing.specs.Put.{held}
 use Rattle.writing.proofs.Grown.{grown_past, grown_within}
 use Rattle.writing.proofs.page.Page.put.Goals as goal
 
-pub returns-then-self-eq-MOST-TEXT-BYTES : goal.returns-then-self-eq-MOST-TEXT-BYTES
+pub returns-then-self-eq-MOST_TEXT_BYTES : goal.returns-then-self-eq-MOST_TEXT_BYTES
 unfolding held
-returns-then-self-eq-MOST-TEXT-BYTES c =
+returns-then-self-eq-MOST_TEXT_BYTES c =
     let p = c.args.self.now in
     let l : length p.bytes ≡ 60000 = search rules in
     sym (grown_past p.full (take p.len p.bytes) (c.args.byte ∷ []) (simp (length-append, length-take) (omega arith)))
 
-pub returns-else-self-eq-MOST-TEXT-BYTES : goal.returns-else-self-eq-MOST-TEXT-BYTES
+pub returns-else-self-eq-MOST_TEXT_BYTES : goal.returns-else-self-eq-MOST_TEXT_BYTES
 unfolding held
-returns-else-self-eq-MOST-TEXT-BYTES c =
+returns-else-self-eq-MOST_TEXT_BYTES c =
     let p = c.args.self.now in
     let l : length p.bytes ≡ 60000 = search rules in
     let w = p.within in

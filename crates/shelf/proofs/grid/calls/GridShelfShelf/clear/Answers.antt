@@ -14,17 +14,17 @@ returns-then-place-eq0 c =
     let e = length_rows grid_row s.n s.places (vec_items s.table) in
     record { answer = grind (arith, nat_tests); after = grind (arith, nat_tests); rest = refl }
 
-pub index-mut-requires : goal.index-mut-requires
-index-mut-requires c =
+pub index_mut-requires : goal.index_mut-requires
+index_mut-requires c =
     let s = c.args.self.now in
     let a = place_of s.sized s.table.ok.0 c.if-place-eq0.false c.if-place-self.false in
     omega (arith, place_within a, s.sized.4)
 
-pub invariant-of-self : goal.invariant-of-self
-invariant-of-self c =
+pub invariant_of-self : goal.invariant_of-self
+invariant_of-self c =
     let s = c.args.self.now in
     let a = place_of s.sized s.table.ok.0 c.if-place-eq0.false c.if-place-self.false in
-    (s.sized, (put_sound (grid_meaning s) _ c.args.place None (emptied a grid_row) refl s.kept, tt))
+    record { sized = s.sized; kept = put_sound (grid_meaning s) _ c.args.place None (emptied a grid_row) refl s.kept }
 
 pub returns : goal.returns
 returns c =

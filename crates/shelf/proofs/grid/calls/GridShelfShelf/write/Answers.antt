@@ -27,24 +27,24 @@ pub lay-requires : goal.lay-requires
 lay-requires c =
     let s = c.args.self.now in
     let a = place_of s.sized s.table.ok.0 c.if-place-eq0.false c.if-place-self.false in
-    omega (arith, place_within a, s.sized.4, row_length s.n c.args.row.now (sym c.if-not-is-row.ensures), c.deref-mut.ensures.len)
+    omega (arith, place_within a, s.sized.4, row_length s.n c.args.row.now (sym c.if-not-is_row.ensures), c.deref_mut.ensures.len)
 
-pub invariant-of-self : goal.invariant-of-self
-invariant-of-self c =
+pub invariant_of-self : goal.invariant_of-self
+invariant_of-self c =
     let s = c.args.self.now in
     let row = c.args.row.now in
     let a = place_of s.sized s.table.ok.0 c.if-place-eq0.false c.if-place-self.false in
-    let ok = sym c.if-not-is-row.ensures in
-    let e = lent s.table (λ xs. overlay xs (start s.n c.args.place) (1 ∷ row)) c.deref-mut.ensures.value c.deref-mut.ensures.len c.lay.auto.table c.lay.ensures in
-    (s.sized, (put_sound (grid_meaning s) _ c.args.place (Some row) (laid a row _ ok e) ok s.kept, tt))
+    let ok = sym c.if-not-is_row.ensures in
+    let e = lent s.table (λ xs. overlay xs (start s.n c.args.place) (1 ∷ row)) c.deref_mut.ensures.value c.deref_mut.ensures.len c.lay.auto.table c.lay.ensures in
+    record { sized = s.sized; kept = put_sound (grid_meaning s) _ c.args.place (Some row) (laid a row _ ok e) ok s.kept }
 
 pub returns : goal.returns
 returns c =
     let s = c.args.self.now in
     let row = c.args.row.now in
     let a = place_of s.sized s.table.ok.0 c.if-place-eq0.false c.if-place-self.false in
-    let ok = sym c.if-not-is-row.ensures in
-    let e = lent s.table (λ xs. overlay xs (start s.n c.args.place) (1 ∷ row)) c.deref-mut.ensures.value c.deref-mut.ensures.len c.lay.auto.table c.lay.ensures in
+    let ok = sym c.if-not-is_row.ensures in
+    let e = lent s.table (λ xs. overlay xs (start s.n c.args.place) (1 ∷ row)) c.deref_mut.ensures.value c.deref_mut.ensures.len c.lay.auto.table c.lay.ensures in
     let m = row_length s.n row ok in
     record {
       answer = sym (ap reply (may_write a grid_row row ok));

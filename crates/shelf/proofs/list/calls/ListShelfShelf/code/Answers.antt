@@ -24,8 +24,8 @@ returns-then-head-eq0 c =
     let a = place_of s.sized s.table.ok.0 c.if-place-eq0.false c.if-place-self.false in
     sym (code_at a (list_row s.n) c.args.part (omega arith) c.if-part-self.false None (row_empty a (list_row s.n) (sym (first_read a _ c.index.ensures) ∙ c.if-head-eq0.true)))
 
-pub slice-bounds-code-in-end : goal.slice-bounds-code-in-end
-slice-bounds-code-in-end c =
+pub slice_bounds-code_in-end : goal.slice_bounds-code_in-end
+slice_bounds-code_in-end c =
     let s = c.args.self.now in
     let a = place_of s.sized s.table.ok.0 c.if-place-eq0.false c.if-place-self.false in
     let w = place_within a in
@@ -40,6 +40,6 @@ returns c =
     let at = start s.n c.args.place in
     let f = first_read a _ c.index.ensures in
     let e : at + c.index.result.now - (at + 1) ≡ get_or (vec_items s.table) at 0 - 1 = omega arith in
-    ap (λ x. Ok (Some x)) (c.code-in.ensures ∙ ap (λ xs. code_in (map mark_from (take (at + c.index.result.now - (at + 1)) (drop (at + 1) xs))) c.args.part) c.deref.ensures.value
+    ap (λ x. Ok (Some x)) (c.code_in.ensures ∙ ap (λ xs. code_in (map mark_from (take (at + c.index.result.now - (at + 1)) (drop (at + 1) xs))) c.args.part) c.deref.ensures.value
     ∙ ap (λ k. code_in (map mark_from (take k (drop (at + 1) (vec_items s.table)))) c.args.part) e)
     ∙ sym (code_told a s.kept (λ z. c.if-head-eq0.false (f ∙ z)) c.args.part (omega arith) c.if-part-self.false)

@@ -22,28 +22,28 @@ inside s place marks k e h =
 pub returns-then-k-eq0 : goal.returns-then-k-eq0
 returns-then-k-eq0 c =
     let s = c.args.self.now in
-    let t = at_place s c.args.place c.in-ok-marks.marks c.in-ok-marks.ensures in
+    let t = at_place s c.args.place c.in_ok-marks.marks c.in_ok-marks.ensures in
     sym (mark_past t.at s.kept t.full c.args.k (λ l. elim c.then-k-eq0.either [ inl e ↦ absurd (omega arith) | inr e ↦ omega (arith, t.count, e.1) ]))
 
-pub overflow-mul-place : goal.overflow-mul-place
-overflow-mul-place c =
+pub overflow_mul-place : goal.overflow_mul-place
+overflow_mul-place c =
     let s = c.args.self.now in
-    let t = at_place s c.args.place c.in-ok-marks.marks c.in-ok-marks.ensures in
+    let t = at_place s c.args.place c.in_ok-marks.marks c.in_ok-marks.ensures in
     omega (arith, place_within t.at, mul-le s.places (s.n + 1) 256 121 s.sized.3 (omega (arith, s.sized.1)))
 
-pub overflow-add-place : goal.overflow-add-place
-overflow-add-place c =
+pub overflow_add-place : goal.overflow_add-place
+overflow_add-place c =
     let s = c.args.self.now in
-    let t = at_place s c.args.place c.in-ok-marks.marks c.in-ok-marks.ensures in
+    let t = at_place s c.args.place c.in_ok-marks.marks c.in_ok-marks.ensures in
     omega (arith, head_low t.at s.kept, t.count, place_within t.at, mul-le s.places (s.n + 1) 256 121 s.sized.3 (omega (arith, s.sized.1)))
 
 pub index-requires : goal.index-requires
-index-requires c = inside c.args.self.now c.args.place c.in-ok-marks.marks c.args.k c.in-ok-marks.ensures c.if-k-marks.false
+index-requires c = inside c.args.self.now c.args.place c.in_ok-marks.marks c.args.k c.in_ok-marks.ensures c.if-k-marks.false
 
 pub returns : goal.returns
 returns c =
     let s = c.args.self.now in
-    let t = at_place s c.args.place c.in-ok-marks.marks c.in-ok-marks.ensures in
-    let l = inside s c.args.place c.in-ok-marks.marks c.args.k c.in-ok-marks.ensures c.if-k-marks.false in
-    ap Some (c.mark-from.ensures ∙ ap mark_from (get_or_read_under _ _ _ _ 0 c.index.ensures l s.table.ok.0))
+    let t = at_place s c.args.place c.in_ok-marks.marks c.in_ok-marks.ensures in
+    let l = inside s c.args.place c.in_ok-marks.marks c.args.k c.in_ok-marks.ensures c.if-k-marks.false in
+    ap Some (c.mark_from.ensures ∙ ap mark_from (get_or_read_under _ _ _ _ 0 c.index.ensures l s.table.ok.0))
     ∙ sym (mark_told t.at s.kept t.full c.args.k (omega arith) (omega (arith, t.count)))

@@ -18,31 +18,28 @@ pub lay-requires : goal.lay-requires
 lay-requires c =
     let s = c.args.self.now in
     let a = place_of s.sized s.table.ok.0 c.if-place-eq0.false c.if-place-self.false in
-    let m = row_length s.n c.args.row.now (sym c.if-not-is-row.ensures) in
-    (omega (arith, place_within a, s.sized.4, c.deref-mut.ensures.len), omega (arith, s.sized.1))
+    let m = row_length s.n c.args.row.now (sym c.if-not-is_row.ensures) in
+    (omega (arith, place_within a, s.sized.4, c.deref_mut.ensures.len), omega (arith, s.sized.1))
 
-pub invariant-of-self : goal.invariant-of-self
-invariant-of-self c =
+pub invariant_of-self : goal.invariant_of-self
+invariant_of-self c =
     let s = c.args.self.now in
     let row = c.args.row.now in
     let a = place_of s.sized s.table.ok.0 c.if-place-eq0.false c.if-place-self.false in
-    let ok = sym c.if-not-is-row.ensures in
-    let e = lent s.table (λ xs. overlay xs (start s.n c.args.place) (list_block row)) c.deref-mut.ensures.value c.deref-mut.ensures.len c.lay.auto.table c.lay.ensures in (
-      s.sized,
-      (
-        ap (λ ys. every (well_formed s.n) (blocks (s.n + 1) s.places ys)) e ∙ ap (every (well_formed s.n)) (blocks_changed a (list_block row) (length_block s.n row ok))
-            ∙ every_set (well_formed s.n) _ (c.args.place - 1) _ (new_formed s.n row _ ok) s.kept,
-        tt,
-      ),
-    )
+    let ok = sym c.if-not-is_row.ensures in
+    let e = lent s.table (λ xs. overlay xs (start s.n c.args.place) (list_block row)) c.deref_mut.ensures.value c.deref_mut.ensures.len c.lay.auto.table c.lay.ensures in record {
+      sized = s.sized;
+      kept = ap (λ ys. every (well_formed s.n) (blocks (s.n + 1) s.places ys)) e ∙ ap (every (well_formed s.n)) (blocks_changed a (list_block row) (length_block s.n row ok))
+          ∙ every_set (well_formed s.n) _ (c.args.place - 1) _ (new_formed s.n row _ ok) s.kept;
+    }
 
 pub returns : goal.returns
 returns c =
     let s = c.args.self.now in
     let row = c.args.row.now in
     let a = place_of s.sized s.table.ok.0 c.if-place-eq0.false c.if-place-self.false in
-    let ok = sym c.if-not-is-row.ensures in
-    let e = lent s.table (λ xs. overlay xs (start s.n c.args.place) (list_block row)) c.deref-mut.ensures.value c.deref-mut.ensures.len c.lay.auto.table c.lay.ensures in
+    let ok = sym c.if-not-is_row.ensures in
+    let e = lent s.table (λ xs. overlay xs (start s.n c.args.place) (list_block row)) c.deref_mut.ensures.value c.deref_mut.ensures.len c.lay.auto.table c.lay.ensures in
     let f = length_block s.n row ok in
     record {
       answer = sym (ap reply (may_write a (list_row s.n) row ok));
