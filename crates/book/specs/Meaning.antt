@@ -1,5 +1,5 @@
 -- What a book means: n parts, and its rules as lists of marks (a formula in conjunctive normal form, its clauses as lists of literals).
-use Rattle.std.specs.Prelude.{◌≡◌, ℕ, ◌+◌, ◌≤◌, Bool, true, false, not, ◌&&◌, ◌||◌, List, [], ◌∷◌, length, Some, None, Option, ◌==◌, nat_le}
+use Rattle.std.specs.Prelude.{◌≡◌, ℕ, ◌+◌, ◌≤◌, Bool, true, false, not, ◌&&◌, ◌||◌, List, [], ◌∷◌, length, Option, ◌==◌, nat_le}
 use Rattle.parts.specs.Lists.{at_place, then_at}
 use Rattle.std.specs.Option.{option_map}
 use Rattle.parts.specs.declared.Mark.{Mark}

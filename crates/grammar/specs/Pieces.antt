@@ -1,5 +1,5 @@
 -- The lines of a text and the fields of a line, each with the place where it starts.
-use Rattle.std.specs.Prelude.{ℕ, ◌+◌, Bool, true, false, cond, not, ◌||◌, List, [], ◌∷◌, ◌==◌}
+use Rattle.std.specs.Prelude.{ℕ, ◌+◌, Bool, false, cond, not, ◌||◌, List, [], ◌∷◌, ◌==◌}
 
 -- a piece of a text: where it starts, and its bytes
 pub record Piece : Type 0 where

@@ -72,11 +72,11 @@ rules_of room end m done used (l ∷ ls) =
 
 -- what a head says of the book's size
 abbrev pub sized : ℕ → ℕ → ℕ → Option ℕ → Option ℕ → Result Size Fault
-sized from at_n at-m None m = Err (fault NoHead from 0)
-sized from at_n at-m (Some n) None = Err (fault NoHead from 0)
-sized from at_n at-m (Some n) (Some m) =
+sized from at_n at_m None m = Err (fault NoHead from 0)
+sized from at_n at_m (Some n) None = Err (fault NoHead from 0)
+sized from at_n at_m (Some n) (Some m) =
     cond (n == 0 || nat_lt 120 n) (Err (fault SizeOutOfRange (from + at_n) 0))
-    (cond (nat_lt 4000 m) (Err (fault SizeOutOfRange (from + at-m) 0)) (Ok (record { n = n; m = m })))
+    (cond (nat_lt 4000 m) (Err (fault SizeOutOfRange (from + at_m) 0)) (Ok (record { n = n; m = m })))
 
 -- the head "p cnf N M" on the line that starts at `from`
 abbrev pub head_of : ℕ → List Piece → Result Size Fault

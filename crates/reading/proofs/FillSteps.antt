@@ -1,21 +1,20 @@
 -- The second pass, line by line.
 use Rattle.std.proofs.Common.{◌≡◌, ℕ, suc, ◌+◌, ◌<◌, ◌≤◌, ltb, List, [], ◌∷◌, ◌++◌, map, length, drop, set, ℤ, nat_abs, Ok, sym, refl, ap, ◌∙◌, subst, inl, inr, arith}
-use Rattle.std.proofs.ByRecursion.{All-weaker}
 use Rattle.std.proofs.lemmas.List.{at_drop_all, length-append, length-map}
 use Rattle.std.specs.List.{between, prefix_len, AllByRecursion as All}
 use Rattle.book.specs.Meaning.{Rule, count_marks}
-use Rattle.book.specs.Tables.{mark_table, end_table, number_from, mark_from}
+use Rattle.book.specs.Tables.{mark_table, end_table, number_from}
 use Rattle.grammar.specs.declared.Room.{Room}
-use Rattle.grammar.specs.Pieces.{Piece, lines, fields, counted}
+use Rattle.grammar.specs.Pieces.{lines, fields, counted}
 use Rattle.grammar.specs.Reading.{limit, rules_of}
 use Rattle.grammar.proofs.Turns.{past, refused}
 use Rattle.grammar.proofs.Lines.{lines_of, lines_inline}
-use Rattle.grammar.proofs.RuleLines.{place_of, rules_skip, step_rules, rules_to, Given}
+use Rattle.grammar.proofs.RuleLines.{place_of, rules_skip, step_rules, rules_to}
 use Rattle.reading.specs.Fills.{Front, filled, stored}
 use Rattle.reading.specs.Spans.{has, piece, Spans}
 use Rattle.reading.specs.declared.pieces.Class.TheVariants.{Inline}
 use Rattle.reading.specs.declared.pieces.Span.{Span}
-use Rattle.reading.proofs.Accepts.{Stores, rule_stores, numbers_back}
+use Rattle.reading.proofs.Accepts.{rule_stores, numbers_back}
 use Rattle.reading.proofs.Fronts.{front_none, front_more, front_all}
 use Rattle.reading.proofs.Runs.{next_line}
 

@@ -8,7 +8,7 @@ use Rattle.book.specs.Meaning.{Rules}
 use Rattle.grammar.specs.declared.Size.{Size}
 use Rattle.grammar.specs.Pieces.{Piece, lines, fields, counted}
 use Rattle.grammar.specs.Reading.{fault, head_of, book_of, rules_of, from_head}
-use Rattle.reading.specs.Spans.{has, piece, Spans}
+use Rattle.reading.specs.Spans.{has, Spans}
 use Rattle.reading.specs.declared.pieces.Class.TheVariants.{Inline}
 use Rattle.reading.specs.declared.pieces.Span.{Span}
 use Rattle.reading.proofs.Runs.{next_line}

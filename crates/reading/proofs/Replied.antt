@@ -1,14 +1,13 @@
 -- What a reading replies and leaves, by what the text reads as.
-use Rattle.std.proofs.Common.{◌≡◌, ℕ, ◌<◌, ◌≤◌, true, cond, ltb, List, [], ◌∷◌, ◌++◌, length, drop, ℤ, Ok, Err, Result, sym, refl, ap, ◌∙◌, subst, arith}
+use Rattle.std.proofs.Common.{◌≡◌, ℕ, ◌<◌, ◌≤◌, ltb, List, length, ℤ, Ok, Err, Result, sym, refl, ap, ◌∙◌, arith}
 use Rattle.std.proofs.lemmas.Bool.{lt-ltb, le-ltb, cond-true, cond-false}
 use Rattle.parts.specs.declared.refusals.Fault.{Fault}
 use Rattle.parts.specs.declared.refusals.Refusal.TheVariants.{TextTooLong}
 use Rattle.book.specs.Meaning.{Rule, Rules}
-use Rattle.book.specs.Tables.{mark_table, end_table, lays, laid_rules}
+use Rattle.book.specs.Tables.{mark_table, end_table}
 use Rattle.book.proofs.TableLaws.{lays_filled, laid_filled}
 use Rattle.grammar.specs.declared.Room.{Room}
 use Rattle.grammar.specs.declared.Size.{Size}
-use Rattle.grammar.specs.Format.{Format}
 use Rattle.grammar.specs.Pieces.{lines}
 use Rattle.grammar.specs.Reading.{fault, rules_of, from_head, read_of}
 use Rattle.grammar.proofs.Accepted.{reading_is_the_format}

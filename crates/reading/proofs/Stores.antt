@@ -1,6 +1,5 @@
 -- One field more of a rule line that is stored.
-use Rattle.std.proofs.Common.{◌≡◌, ℕ, ◌+◌, ◌^◌, ◌<◌, ◌≤◌, List, [], ◌∷◌, ◌++◌, map, length, ℤ, pos, negsuc, nat_abs, Some, None, sym, refl, ap, ◌∙◌, subst, arith, w16, w32, SFits, of_z}
-use Rattle.std.proofs.lemmas.Int.{ints}
+use Rattle.std.proofs.Common.{◌≡◌, ℕ, ◌≤◌, List, [], ◌∷◌, ◌++◌, ℤ, pos, negsuc, nat_abs, Some, None, sym, refl, ap, ◌∙◌, subst, arith, w16, w32, SFits, of_z}
 use Rattle.std.proofs.lemmas.Bool.{eq-eqb, ne_eqb}
 use Rattle.grammar.specs.Numbers.{signed}
 use Rattle.grammar.specs.Pieces.{Piece}

@@ -1,5 +1,5 @@
 -- How the first pass speaks of a rule that it reads.
-use Rattle.std.specs.Prelude.{◌≡◌, ℕ, ◌≤◌, false, List, [], ◌∷◌, length, Ok, Err, Result, slice_index_or}
+use Rattle.std.specs.Prelude.{◌≡◌, ℕ, ◌≤◌, false, List, length, Ok, Err, Result, slice_index_or}
 use Rattle.parts.specs.declared.refusals.Fault.{Fault}
 use Rattle.book.specs.Meaning.{Rule, names}
 use Rattle.reading.specs.declared.seen.Seen.{Seen}

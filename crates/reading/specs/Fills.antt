@@ -1,6 +1,6 @@
 -- How the second pass speaks of the tables that it fills.
 use Rattle.std.specs.Prelude.{◌≡◌, ℕ, ◌+◌, ◌≤◌, cond, List, [], ◌∷◌, ◌++◌, length, take, drop, ℤ, Some, None, Ok, Option, ◌==◌, unsigned_abs}
-use Rattle.book.specs.Meaning.{Rule, Rules}
+use Rattle.book.specs.Meaning.{Rule}
 use Rattle.grammar.specs.Numbers.{signed}
 use Rattle.grammar.specs.Pieces.{Piece, lines}
 use Rattle.grammar.specs.Reading.{rules_of}

@@ -1,5 +1,5 @@
 -- How the readers speak of lines and fields.
-use Rattle.std.specs.Prelude.{◌≡◌, ℕ, ◌<◌, ◌≤◌, Bool, not, List, [], ◌∷◌, length, drop, ◌==◌}
+use Rattle.std.specs.Prelude.{◌≡◌, ℕ, ◌<◌, ◌≤◌, Bool, not, List, ◌∷◌, length, drop, ◌==◌}
 use Rattle.std.specs.List.{between}
 use Rattle.grammar.specs.Pieces.{Piece, blank, fields}
 use Rattle.reading.specs.declared.pieces.Class.{Class}

@@ -35,8 +35,12 @@ all_sound n [] i h s = refl
 all_sound n (r ∷ rs) zero h s = sound_more n r h (and_parts (sound_rule n r) (sound_rules n rs) s).0
 all_sound n (r ∷ rs) (suc i) h s = all_sound n rs i h (and_parts (sound_rule n r) (sound_rules n rs) s).1
 
+-- both lists are over 120 parts, as the trail's row is
+pub as_many : 120 ≤ 120
+as_many = omega arith
+
 pub book_within : (b : Rules) → books.Sound b → Within (book_list b)
-book_within b s = record { few = omega arith; sound = λ i. all_sound b.n b.rules i s.few s.rules_sound }
+book_within b s = record { sound = λ i. all_sound b.n b.rules i s.few s.rules_sound }
 
 -- the marks of a row from a part on name no part below it
 none_below : (p q : ℕ) (cs : List ℕ) → q < p → names (marks_from p cs) q ≡ false
@@ -68,4 +72,4 @@ all_rows n (o ∷ rows) zero h s = by o (and_parts (sound_place n o) (every (sou
 all_rows n (o ∷ rows) (suc i) h s = all_rows n rows i h (and_parts (sound_place n o) (every (sound_place n) rows) s).1
 
 pub shelf_within : (s : Shelved) → shelves.Sound s → Within (shelf_list s)
-shelf_within s k = record { few = omega arith; sound = λ i. all_rows s.n s.rows i k.few k.rows_sound }
+shelf_within s k = record { sound = λ i. all_rows s.n s.rows i k.few k.rows_sound }

@@ -1,5 +1,5 @@
 -- Rules under a settled row, and the first that is broken or pressing.
-use Rattle.std.specs.Prelude.{◌≡◌, ℕ, ◌+◌, ◌-◌, ◌≤◌, Bool, true, cond, List, [], ◌∷◌, length, Some, None, Option, ◌==◌, slice_index, slice_index_or}
+use Rattle.std.specs.Prelude.{◌≡◌, ℕ, ◌+◌, ◌-◌, Bool, true, cond, List, [], ◌∷◌, length, Some, None, Option, ◌==◌, slice_index, slice_index_or}
 use Rattle.std.specs.Option.{option_map}
 use Rattle.parts.specs.Codes.{code_of}
 use Rattle.parts.specs.declared.Mark.{Mark}
@@ -14,13 +14,12 @@ pub record Listed : Type 0 where
   pub n : ℕ
   pub rules : List (Option Rule)
 
--- each rule names only parts from 1 to n, and none twice; n is at most 120
+-- each rule names only parts from 1 to n, and none twice
 abbrev pub sound_one : ℕ → Option Rule → Bool
 sound_one n None = true
 sound_one n (Some r) = sound_rule n r
 
 pub record Within (l : Listed) : Type 0 where
-  pub few : l.n ≤ 120
   pub sound : (i : ℕ) → sound_one l.n (slice_index_or l.rules i None) ≡ true
 
 abbrev pub rule_in : List (Option Rule) → ℕ → Option Rule

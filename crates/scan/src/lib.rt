@@ -1,7 +1,7 @@
 // Finding the first broken rule, else the first pressing one.
 #![tactic(auto)]
 
-ghost use Rattle.std.specs.Prelude.{◌≡◌, ℕ, List, length};
+ghost use Rattle.std.specs.Prelude.{◌≡◌, ◌≤◌, length};
 ghost use Rattle.search.specs.Trail.{row as row_of};
 ghost use Rattle.trail.specs.Stacks.{trail_of};
 ghost use Rattle.scan.specs.Scan.{Listed, Within, marks_in, mark_in, scan_of};
@@ -16,6 +16,9 @@ pub trait RuleList {
     ghost listed: { Self → Listed };
 
     ghost within: { (l : Self) → Within (listed l) };
+
+    // at most 120 parts
+    ghost few: { (l : Self) → (listed l).n ≤ 120 };
 
     fn count(&self) -> usize
         ensures { result ≡ length (listed self.now).rules };
@@ -36,10 +39,17 @@ pub enum Found {
 }
 
 // The first broken rule of the list under a trail, else the first pressing one.
-pub fn scan<R: RuleList>(list: &R, trail: &Trail) -> Found
+pub fn scan_under<R: RuleList>(list: &R, trail: &Trail) -> Found
     ensures { result ≡ scan_of (row_of 120 (trail_of trail.now)) 1 (R.RuleList.listed list.now).rules }
 {
-    let row = trail.row();
+    scan(list, trail.row())
+}
+
+// The first broken rule of the list under a settled row, else the first pressing one.
+fn scan<R: RuleList>(list: &R, row: &[u8]) -> Found
+    requires { (R.RuleList.listed list.now).n ≤ length row.now }
+    ensures { result ≡ scan_of row.now 1 (R.RuleList.listed list.now).rules }
+{
     let mut pressing = Found::Quiet;
     'rules: for i in 0..list.count() {
         let Some(marks) = list.marks(i + 1) else {

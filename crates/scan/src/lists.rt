@@ -1,6 +1,6 @@
 // The rules of a book, and the lessons of a shelf, as lists of rules.
 ghost use Rattle.std.specs.Prelude.{map};
-ghost use Rattle.scan.specs.Lists.{book_list, shelf_list, book_within, shelf_within};
+ghost use Rattle.scan.specs.Lists.{book_list, shelf_list, book_within, shelf_within, as_many};
 
 use crate::RuleList;
 use book::Book;
@@ -15,6 +15,8 @@ impl<B: Book> RuleList for BookRules<'_, B> {
     ghost listed = { λ l. book_list (B.Book.meaning l.0.now) };
 
     ghost within = { λ l. book_within (B.Book.meaning l.0.now) (B.Book.sound l.0.now) };
+
+    ghost few = { λ _. as_many };
 
     fn count(&self) -> usize {
         self.0.rules()
@@ -37,6 +39,8 @@ impl<S: Shelf> RuleList for ShelfRules<'_, S> {
     ghost listed = { λ l. shelf_list (S.Shelf.meaning l.0.now) };
 
     ghost within = { λ l. shelf_within (S.Shelf.meaning l.0.now) (S.Shelf.sound l.0.now) };
+
+    ghost few = { λ _. as_many };
 
     fn count(&self) -> usize {
         self.0.places()

@@ -1,11 +1,11 @@
 -- What a call leaves alone.
-use Rattle.std.proofs.Common.{◌≡◌, ℕ, zero, suc, true, false, List, Some, None, Option, refl, ap, ◌∙◌}
+use Rattle.std.proofs.Common.{◌≡◌, ℕ, zero, suc, true, false, List, Some, None, Option, refl, ap}
 use Rattle.parts.specs.declared.Mark.{Mark}
 use Rattle.parts.specs.declared.refusals.Refusal.{Refusal}
 use Rattle.search.specs.Machine.{Bench, Machine, is_told, step, run}
 use Rattle.search.specs.Calls.{Call, hold, release, run_for, refuses, accepted, restarted, unless, call}
 use Rattle.search.proofs.Basics.{clash}
-use Rattle.search.specs.Law.{is_run, Leaves, CallsLeaveTheRest}
+use Rattle.search.specs.Law.{is_run, CallsLeaveTheRest}
 
 pub refused_same : (b : Bench) (m : Machine) (c : Call) (why : Refusal) → refuses b m c ≡ Some why → call b c m ≡ m
 unfolding call

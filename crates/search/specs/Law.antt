@@ -4,7 +4,7 @@ use Rattle.parts.specs.Codes.{side_of}
 use Rattle.parts.specs.Rows.{row_marks}
 use Rattle.parts.specs.declared.Mark.{Mark}
 use Rattle.parts.specs.declared.Side.{Side}
-use Rattle.parts.specs.declared.Side.TheVariants.{In, Out}
+use Rattle.parts.specs.declared.Side.TheVariants.{Out}
 use Rattle.parts.specs.declared.refusals.Refusal.{Refusal}
 use Rattle.parts.specs.Lists.{at_place, then_at}
 use Rattle.book.specs.Meaning as books

@@ -1,14 +1,12 @@
 -- The search machine: one step, the turn, the place written, forgetting, the run.
 use Rattle.std.specs.Prelude.{ℕ, zero, suc, ◌-◌, Bool, true, false, cond, not, ◌&&◌, ◌||◌, List, [], ◌∷◌, ◌++◌, map, length, replicate, Some, None, Option, ◌==◌, nat_le, nat_lt}
-use Rattle.std.specs.Option.{option_map}
 use Rattle.parts.specs.Marks.{opposite_of}
 use Rattle.parts.specs.Rows.{row_marks}
 use Rattle.parts.specs.declared.Mark.{Mark}
-use Rattle.parts.specs.Lists.{at_place, then_at}
+use Rattle.parts.specs.Lists.{at_place}
 use Rattle.book.specs.Meaning.{Rule, Rules}
 use Rattle.picker.specs.Meaning.{Picks, picked}
 use Rattle.shelf.specs.Meaning.{Shelved, written}
-use Rattle.search.specs.declared.Entry.{Entry}
 use Rattle.search.specs.declared.Forgetting.{Forgetting}
 use Rattle.search.specs.declared.Forgetting.TheVariants.{KeepAll, Size, Relevance, Bounded, Both}
 use Rattle.search.specs.declared.Kind.{Kind}

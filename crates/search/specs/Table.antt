@@ -7,7 +7,7 @@ use Rattle.search.specs.declared.Forgetting.{Forgetting}
 use Rattle.search.specs.declared.Forgetting.TheVariants.{KeepAll, Size, Relevance, Bounded, Both}
 use Rattle.search.specs.Trail.{Row, row}
 use Rattle.search.specs.Machine.{Bench, Machine, Verdict, working, fits, none_fits, Places}
-use Rattle.search.specs.Calls.{Call, hold, release, run_for, calls, opened}
+use Rattle.search.specs.Calls.{Call, hold, run_for, calls, opened}
 
 -- part p in, and part p out
 abbrev pub i : ℕ → Mark

@@ -69,7 +69,7 @@ pub fn cases_stand() -> usize
     11
 }
 
-// The law of the search: see Search-keeps-its-promises in specs/Law.antt. It tells how many promises that has: lessons, verdict, turns, steps, told.
+// The law of the search: see SearchKeepsItsPromises in specs/Law.antt. It tells how many promises that has: lessons, verdict, turns, steps, told.
 pub fn search_stands() -> usize
     ensures count { result ≡ 5 }
     ensures law { SearchKeepsItsPromises }

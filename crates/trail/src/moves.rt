@@ -1,5 +1,5 @@
 // What is put on the trail and taken off it.
-ghost use Rattle.std.specs.Prelude.{◌≡◌, [], ◌∷◌, if◌then◌else◌};
+ghost use Rattle.std.specs.Prelude.{◌≡◌, ◌-◌, ◌≤◌, [], ◌∷◌, slice_index, if◌then◌else◌};
 ghost use Rattle.trail.specs.Stacks.{trail_of, can_push, newest, older};
 
 use crate::Trail;
@@ -27,17 +27,25 @@ impl Trail {
     }
 
     // Settles a part that is open, from 1 to 120, and tells whether it was.
-    pub fn push(&mut self, mark: Mark, kind: Kind) -> bool
+    pub fn settle(&mut self, mark: Mark, kind: Kind) -> bool
         ensures answer { result ≡ can_push (trail_of self.old) mark }
         ensures after { trail_of self.new ≡ (if result then (record { mark = mark; kind = kind } ∷ trail_of self.old) else trail_of self.old) }
     {
         if !self.can_push(mark) {
             return false;
         }
+        self.push(mark, kind);
+        true
+    }
+
+    // One more part is settled; it was open.
+    fn push(&mut self, mark: Mark, kind: Kind)
+        requires { (1 ≤ mark.part) × ((mark.part ≤ 120) × (slice_index self.old.row (mark.part - 1) ≡ 0)) }
+        ensures { trail_of self.new ≡ record { mark = mark; kind = kind } ∷ trail_of self.old }
+    {
         self.entries[self.len] = Entry { mark, kind };
         self.len += 1;
         self.row[mark.part - 1] = mark.side.code();
-        true
     }
 
     // Whether a mark may be settled.

@@ -1,9 +1,7 @@
-use Rattle.std.proofs.Common.{◌≡◌, ℕ, List, length, drop, ℤ, Ok, Err, sym, refl, ap, ◌∙◌, subst, arith}
+use Rattle.std.proofs.Common.{length, drop, Ok, sym, ap, ◌∙◌}
 use Rattle.std.proofs.lemmas.Result.{err_from_is_err_and}
-use Rattle.book.specs.Meaning.{Rules}
 use Rattle.grammar.specs.Reading.{book_of}
 use Rattle.grammar.proofs.Accepted.{reading_is_the_format}
-use Rattle.grammar.proofs.RuleLines.{rules_to, Given}
 use Rattle.reading.proofs.Replied.{rules_passed, rules_refused, too_long, by_lines, reply_is, marks_are, ends_are, lays_read, all_read}
 use Rattle.reading.proofs.read.Goals as goal
 

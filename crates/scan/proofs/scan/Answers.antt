@@ -8,8 +8,6 @@ use Rattle.scan.specs.Scan.{scan_of, state_in, state_of, sound_one}
 use Rattle.scan.specs.declared.Found.{Found}
 use Rattle.scan.specs.declared.Found.TheVariants.{Broken, Pressing, Quiet}
 use Rattle.scan.proofs.Scans.{free, onto, marks_at, is_quiet_or_pressing, no_rule, some_rule, mark_next, rule_quiet, rule_broken, rule_first, rule_later, mark_true, mark_false, mark_open, mark_second}
-use Rattle.search.proofs.Settled.{length_row}
-use Rattle.trail.specs.Stacks.{trail_of}
 use Rattle.trail.proofs.Fronts.{sound_part}
 use Rattle.scan.proofs.scan.Given.{Over}
 use Rattle.scan.proofs.scan.Goals as goal
@@ -38,7 +36,7 @@ ended row ms k o s h e = ap (free o) (sym (at_drop_all (state_in row) ms k h)) �
 pub rules-preserved-in_default : goal.rules-preserved-in_default
 rules-preserved-in_default g c =
     let rs = (g.R.RuleList.listed c.args.list.now).rules in
-    (c.rules.invariant.0, sym (rule_quiet c.row-row.result.now rs c.rules.i c.rules.pressing (omega arith) (ap (state_of c.row-row.result.now) (no_rule rs c.rules.i (omega arith) c.in_default.ensures))) ∙ c.rules.invariant.1)
+    (c.rules.invariant.0, sym (rule_quiet c.args.row.now rs c.rules.i c.rules.pressing (omega arith) (ap (state_of c.args.row.now) (no_rule rs c.rules.i (omega arith) c.in_default.ensures))) ∙ c.rules.invariant.1)
 
 pub marks-init : goal.marks-init
 marks-init g c =
@@ -56,24 +54,24 @@ pub overflow_sub-code : goal.overflow_sub-code
 overflow_sub-code g c = (within g (goal.at.overflow_sub-code g c).In-Some-mark).0
 
 pub bounds-row-m : goal.bounds-row-m
-bounds-row-m g c = let w = within g (goal.at.bounds-row-m g c).In-Some-mark in omega (arith, w.0, w.1, ap length c.row-row.ensures, length_row 120 (trail_of c.args.trail.now), (g.R.RuleList.within c.args.list.now).few)
+bounds-row-m g c = let w = within g (goal.at.bounds-row-m g c).In-Some-mark in omega (arith, w.0, w.1, c.requires)
 
 pub rules-preserved-then-is_some : goal.rules-preserved-then-is_some
 rules-preserved-then-is_some g c =
     let rs = (g.R.RuleList.listed c.args.list.now).rules in
-    let v = mark_second c.row-row.result.now (marks_at rs c.rules.i) c.marks.k c.in-Some-mark.m c.marks.free (omega (arith, c.marks.invariant.1)) (read g (goal.at.rules-preserved-then-is_some g c).In-Some-mark) c.if-code-eq0.true (sym c.is_some.ensures ∙ c.if-is_some.true) in
-    (c.rules.invariant.0, sym (rule_quiet c.row-row.result.now rs c.rules.i c.rules.pressing (omega arith) (ap (state_of c.row-row.result.now) c.marks.invariant.0 ∙ sym c.marks.invariant.2 ∙ v)) ∙ c.rules.invariant.1)
+    let v = mark_second c.args.row.now (marks_at rs c.rules.i) c.marks.k c.in-Some-mark.m c.marks.free (omega (arith, c.marks.invariant.1)) (read g (goal.at.rules-preserved-then-is_some g c).In-Some-mark) c.if-code-eq0.true (sym c.is_some.ensures ∙ c.if-is_some.true) in
+    (c.rules.invariant.0, sym (rule_quiet c.args.row.now rs c.rules.i c.rules.pressing (omega arith) (ap (state_of c.args.row.now) c.marks.invariant.0 ∙ sym c.marks.invariant.2 ∙ v)) ∙ c.rules.invariant.1)
 
 pub rules-preserved-then-code : goal.rules-preserved-then-code
 rules-preserved-then-code g c =
     let rs = (g.R.RuleList.listed c.args.list.now).rules in
-    let v = mark_true c.row-row.result.now (marks_at rs c.rules.i) c.marks.k c.in-Some-mark.m c.marks.free (omega (arith, c.marks.invariant.1)) (read g (goal.at.rules-preserved-then-code g c).In-Some-mark) c.if-code-eq0.false (c.if-code.true ∙ c.code.ensures) in
-    (c.rules.invariant.0, sym (rule_quiet c.row-row.result.now rs c.rules.i c.rules.pressing (omega arith) (ap (state_of c.row-row.result.now) c.marks.invariant.0 ∙ sym c.marks.invariant.2 ∙ v)) ∙ c.rules.invariant.1)
+    let v = mark_true c.args.row.now (marks_at rs c.rules.i) c.marks.k c.in-Some-mark.m c.marks.free (omega (arith, c.marks.invariant.1)) (read g (goal.at.rules-preserved-then-code g c).In-Some-mark) c.if-code-eq0.false (c.if-code.true ∙ c.code.ensures) in
+    (c.rules.invariant.0, sym (rule_quiet c.args.row.now rs c.rules.i c.rules.pressing (omega arith) (ap (state_of c.args.row.now) c.marks.invariant.0 ∙ sym c.marks.invariant.2 ∙ v)) ∙ c.rules.invariant.1)
 
 pub marks-preserved : goal.marks-preserved
 marks-preserved g c =
     let ms = marks_at (g.R.RuleList.listed c.args.list.now).rules c.rules.i in
-    let row = c.row-row.result.now in
+    let row = c.args.row.now in
     let is = read g (goal.at.marks-preserved g c).In-Some-mark in
     let m = c.in-Some-mark.m in (
       c.marks.invariant.0,
@@ -87,14 +85,14 @@ marks-preserved g c =
 pub returns-in_default-free : goal.returns-in_default-free
 returns-in_default-free g c =
     let rs = (g.R.RuleList.listed c.args.list.now).rules in
-    let row = c.row-row.result.now in
+    let row = c.args.row.now in
     let s = ended row (marks_at rs c.rules.i) c.marks.k c.marks.free _ (omega (arith, c.marks.invariant.1)) c.marks.invariant.2 in
-    sym (rule_broken row rs c.rules.i c.rules.pressing (omega arith) c.rules.invariant.0 (ap (state_of row) c.marks.invariant.0 ∙ sym s ∙ ap (λ o. free o broken) c.in_default-free.is)) ∙ c.rules.invariant.1 ∙ ap (λ r. scan_of r 1 rs) c.row-row.ensures
+    sym (rule_broken row rs c.rules.i c.rules.pressing (omega arith) c.rules.invariant.0 (ap (state_of row) c.marks.invariant.0 ∙ sym s ∙ ap (λ o. free o broken) c.in_default-free.is)) ∙ c.rules.invariant.1
 
 pub rules-preserved : goal.rules-preserved
 rules-preserved g c =
     let rs = (g.R.RuleList.listed c.args.list.now).rules in
-    let row = c.row-row.result.now in
+    let row = c.args.row.now in
     let m = c.in-Some-free.m in
     let rest = scan_of row (c.rules.i + 1 + 1) (drop (c.rules.i + 1) rs) in
     let s = ended row (marks_at rs c.rules.i) c.marks.k c.marks.free _ (omega (arith, c.marks.invariant.1)) c.marks.invariant.2 in
@@ -118,4 +116,4 @@ onto_quiet Quiet q = refl
 pub returns : goal.returns
 returns g c =
     let rs = (g.R.RuleList.listed c.args.list.now).rules in
-    sym (ap (onto c.rules.pressing) (at_drop_all (scan_of c.row-row.result.now (c.rules.i + 1)) rs c.rules.i (omega arith)) ∙ onto_quiet c.rules.pressing c.rules.invariant.0) ∙ c.rules.invariant.1 ∙ ap (λ r. scan_of r 1 rs) c.row-row.ensures
+    sym (ap (onto c.rules.pressing) (at_drop_all (scan_of c.args.row.now (c.rules.i + 1)) rs c.rules.i (omega arith)) ∙ onto_quiet c.rules.pressing c.rules.invariant.0) ∙ c.rules.invariant.1

@@ -45,7 +45,7 @@ impl<B: Book, P: Picker, S: Shelf> Session<B, P, S> {
         ensures kept { Kept self.old self.new }
     {
         self.steps += 1;
-        let _ = self.trail.push(mark, kind);
+        let _ = self.trail.settle(mark, kind);
     }
 
     // Asks the picker, and settles its mark.
@@ -89,7 +89,7 @@ impl<B: Book, P: Picker, S: Shelf> Session<B, P, S> {
         let _ = self.shelf.write(self.last, work);
         let _ = self
             .trail
-            .push(picked.opposite(), Kind::Forced(Reason::Shelf(self.last)));
+            .settle(picked.opposite(), Kind::Forced(Reason::Shelf(self.last)));
         sweep(&mut self.shelf, self.forget, &self.trail);
     }
 

@@ -12,7 +12,7 @@ use crate::step::Move;
 use book::Book;
 use picker::Picker;
 use scan::lists::{BookRules, ShelfRules};
-use scan::{Found, scan};
+use scan::{Found, scan_under};
 use search::Reason;
 use shelf::Shelf;
 
@@ -22,11 +22,11 @@ impl<B: Book, P: Picker, S: Shelf> Session<B, P, S> {
         ensures looked { as_move result ≡ look_of (bench_of B.Book.meaning P.Picker.meaning self.now) (machine_of B.Book.meaning S.Shelf.meaning self.now) }
         ensures free { Settles (trail_of self.now.trail) result }
     {
-        let in_book = scan(&BookRules(&self.book), &self.trail);
+        let in_book = scan_under(&BookRules(&self.book), &self.trail);
         if let Found::Broken(rule) = in_book {
             return Move::TurnOn(Reason::Book(rule));
         }
-        let on_shelf = scan(&ShelfRules(&self.shelf), &self.trail);
+        let on_shelf = scan_under(&ShelfRules(&self.shelf), &self.trail);
         if let Found::Broken(place) = on_shelf {
             return Move::TurnOn(Reason::Shelf(place));
         }

@@ -3,7 +3,7 @@ use Rattle.std.proofs.lemmas.Result.{err_from_is_err_and}
 use Rattle.grammar.specs.Pieces.{lines}
 use Rattle.grammar.specs.Reading.{rules_of}
 use Rattle.reading.specs.Checks.{passed}
-use Rattle.reading.proofs.BookSteps.{passed_after, counted_rule, this_rule, on_skip, on_over, on_fault, on_rule, on_missing, on_all}
+use Rattle.reading.proofs.BookSteps.{passed_after, counted_rule, on_skip, on_over, on_fault, on_rule, on_missing, on_all}
 use Rattle.reading.proofs.checking.check_rules.Goals as goal
 use Rattle.reading.proofs.checking.check_rules.Goals.{in-Some+else-done-m+in_ok-used, in_default}
 

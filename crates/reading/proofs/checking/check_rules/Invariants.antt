@@ -1,4 +1,4 @@
-use Rattle.std.proofs.Common.{◌≡◌, ◌+◌, ◌-◌, ◌≤◌, length, drop}
+use Rattle.std.proofs.Common.{◌≡◌, ◌-◌, ◌≤◌, length, drop}
 use Rattle.grammar.specs.Pieces.{lines}
 use Rattle.grammar.specs.Reading.{rules_of}
 use Rattle.reading.specs.Checks.{passed}

@@ -19,8 +19,8 @@ returns g c =
     let t = trail_of s.trail in
     let forced : ℕ → Mark → Trail = λ i m. record { mark = m; kind = Forced (Shelf i) } ∷ t in
     let place : c.next_place-self.result ≡ next_place shelf.rows s.last t = c.next_place-self.ensures in
-    let trail : trail_of c.push.new.self ≡ forced (next_place shelf.rows s.last t) (opposite_of c.args.picked) =
-    put _ _ c.push.result (c.push.ensures.answer ∙ open_push t c.opposite.result (rw c.opposite.ensures c.requires.1.1)) c.push.ensures.after ∙ ap (forced c.next_place-self.result) c.opposite.ensures ∙ ap (λ i. forced i (opposite_of c.args.picked)) place in
+    let trail : trail_of c.settle.new.self ≡ forced (next_place shelf.rows s.last t) (opposite_of c.args.picked) =
+    put _ _ c.settle.result (c.settle.ensures.answer ∙ open_push t c.opposite.result (rw c.opposite.ensures c.requires.1.1)) c.settle.ensures.after ∙ ap (forced c.next_place-self.result) c.opposite.ensures ∙ ap (λ i. forced i (opposite_of c.args.picked)) place in
     record {
       after = same _ _ refl trail
           (c.sweep.ensures ∙ ap (λ t. swept s.forget t (g.S.Shelf.meaning c.write.new.self)) trail ∙ ap (swept s.forget (forced (next_place shelf.rows s.last t) (opposite_of c.args.picked))) (c.write.ensures.after ∙ ap (λ i. written shelf i c.args.work.now) place))

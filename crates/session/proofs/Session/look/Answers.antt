@@ -16,13 +16,13 @@ returns-in-Broken g c = let k = sees g c.args.self.now in record { looked = brea
 pub returns-in-Broken-on_shelf : goal.returns-in-Broken-on_shelf
 returns-in-Broken-on_shelf g c =
     let k = sees g c.args.self.now in
-    record { looked = breaks_shelf k c.scan-in_book.ensures c.in_default.not-Broken _ c.in-Broken-on_shelf.ensures; free = tt }
+    record { looked = breaks_shelf k c.scan_under-in_book.ensures c.in_default.not-Broken _ c.in-Broken-on_shelf.ensures; free = tt }
 
 pub returns-in-Pressing : goal.returns-in-Pressing
 returns-in-Pressing g c =
     let k = sees g c.args.self.now in
     record {
-      looked = presses_book k c.scan-in_book.ensures c.in_default.not-Broken c.scan-on_shelf.ensures c.in_default-on_shelf.not-Broken _ _ c.in-Pressing.is;
+      looked = presses_book k c.scan_under-in_book.ensures c.in_default.not-Broken c.scan_under-on_shelf.ensures c.in_default-on_shelf.not-Broken _ _ c.in-Pressing.is;
       free = book_free k _ _ c.in-Pressing.ensures;
     }
 
@@ -30,12 +30,12 @@ pub returns-in-Pressing-on_shelf : goal.returns-in-Pressing-on_shelf
 returns-in-Pressing-on_shelf g c =
     let k = sees g c.args.self.now in
     record {
-      looked = presses_shelf k c.scan-in_book.ensures c.in_default.not-Broken c.scan-on_shelf.ensures c.in_default-on_shelf.not-Broken c.in_default-in_book.not-Pressing _ _ c.in-Pressing-on_shelf.is;
+      looked = presses_shelf k c.scan_under-in_book.ensures c.in_default.not-Broken c.scan_under-on_shelf.ensures c.in_default-on_shelf.not-Broken c.in_default-in_book.not-Pressing _ _ c.in-Pressing-on_shelf.is;
       free = shelf_free k _ _ c.in-Pressing-on_shelf.ensures;
     }
 
 pub returns : goal.returns
 returns g c =
     let k = sees g c.args.self.now in
-    let quiet = presses_none k c.scan-in_book.ensures c.in_default.not-Broken c.scan-on_shelf.ensures c.in_default-on_shelf.not-Broken c.in_default-in_book.not-Pressing c.in_default-on_shelf-2.not-Pressing in
+    let quiet = presses_none k c.scan_under-in_book.ensures c.in_default.not-Broken c.scan_under-on_shelf.ensures c.in_default-on_shelf.not-Broken c.in_default-in_book.not-Pressing c.in_default-on_shelf-2.not-Pressing in
     record { looked = c.look_at_holds.ensures.looked ∙ quiet; free = c.look_at_holds.ensures.free }

@@ -1,4 +1,4 @@
-use Rattle.std.proofs.Common.{sym, ap, ◌∙◌, arith}
+use Rattle.std.proofs.Common.{sym, ◌∙◌, arith}
 use Rattle.shelf.proofs.Walks.{told, told_side, told_refused, seek_none, seek_pass, seek_found, seek_all, no_mark}
 use Rattle.shelf.proofs.Shelf.mark.Goals as goal
 use Rattle.shelf.proofs.Shelf.mark.Goals.{in-Some+else-left-eq1, in_default}

@@ -1,4 +1,4 @@
-use Rattle.std.proofs.Common.{◌≡◌, set, ap, ◌∙◌, arith}
+use Rattle.std.proofs.Common.{set, ap, ◌∙◌, arith}
 use Rattle.shelf.proofs.Filling.{fill_more}
 use Rattle.shelf.proofs.table.fill_front.Goals as goal
 

@@ -1,6 +1,6 @@
-use Rattle.std.proofs.Common.{◌≡◌, ◌+◌, ◌/◌, ◌%◌, ◌<◌, [], ◌∷◌, decimal, arith, rules}
+use Rattle.std.proofs.Common.{◌≡◌, ◌+◌, ◌/◌, ◌%◌, [], ◌∷◌, decimal, arith, rules}
 use Rattle.std.proofs.lemmas.Fmt.{decimal_digit, decimal_step}
-use Rattle.writing.specs.Put.{held, grown}
+use Rattle.writing.specs.Put.{held}
 use Rattle.writing.proofs.Grown.{grown_grown}
 use Rattle.writing.proofs.page.Page.+put_number.Goals as goal
 use Rattle.writing.proofs.page.Page.+put_number.Goals.{then-number-ge10, else-number-ge10}

@@ -1,5 +1,4 @@
-use Rattle.std.proofs.Common.{◌≡◌, [], ◌∷◌, ◌++◌, drop}
-use Rattle.std.specs.List.{flat_map}
+use Rattle.std.proofs.Common.{◌≡◌, drop}
 use Rattle.grammar.specs.Writing.{rule_line}
 use Rattle.writing.specs.Put.{held, grown, rule_at}
 use Rattle.writing.proofs.page.Page.put_rule.Given as goal
