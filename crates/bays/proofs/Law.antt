@@ -1,6 +1,6 @@
 -- The rules of bays hold exactly where one part of each bay is in.
 use Rattle.std.proofs.Common.{◌≡◌, ℕ, zero, suc, ◌+◌, ◌-◌, ◌<◌, ◌≤◌, Bool, true, List, [], ◌∷◌, ◌++◌, map, get_or, sym, refl, ap, ◌∙◌, subst, ⊎_elim, arith}
-use Rattle.std.specs.List.{range_with_len, AllByRecursion as All}
+use Rattle.std.specs.List.{range_with_len, AllByRecursion}
 use Rattle.std.proofs.lemmas.List.FromFn.{length-map-range_with_len, get_or-map-range_with_len}
 use Rattle.std.proofs.ByRecursion.{All-append, All-map}
 use Rattle.std.proofs.lemmas.Bool.{both_ways, cases_Bool, cases_eq, cases_order}
@@ -9,21 +9,21 @@ use Rattle.bays.specs.Meaning.{in_mark, out_mark, some_in, not_both, pairs, bay_
 use Rattle.bays.specs.Law.{is_in, Meets, InBay, OneIn, OneInEach, HoldOne}
 
 module _ {X : Type 0} (P : X → Type 0) where
-  all_parts : (xs ys : List X) → All P (xs ++ ys) → All P xs × All P ys
+  all_parts : (xs ys : List X) → AllByRecursion P (xs ++ ys) → AllByRecursion P xs × AllByRecursion P ys
   all_parts [] ys a = (tt, a)
   all_parts (x ∷ xs) ys a = let r = all_parts xs ys a.1 in ((a.0, r.0), r.1)
 
-  all_unmap : {Y : Type 0} (g : Y → X) (ys : List Y) → All P (map g ys) → All (λ y. P (g y)) ys
+  all_unmap : {Y : Type 0} (g : Y → X) (ys : List Y) → AllByRecursion P (map g ys) → AllByRecursion (λ y. P (g y)) ys
   all_unmap g [] a = tt
   all_unmap g (y ∷ ys) a = (a.0, all_unmap g ys a.1)
 
 -- what holds of each part of a bay
 module _ (P : ℕ → Type 0) where
-  each_from : (a w : ℕ) → ((p : ℕ) → InBay a w p → P p) → All P (range_with_len a w)
+  each_from : (a w : ℕ) → ((p : ℕ) → InBay a w p → P p) → AllByRecursion P (range_with_len a w)
   each_from a zero h = tt
   each_from a (suc w) h = (h a (omega arith, omega arith), each_from (a + 1) w (λ p i. h p (omega arith, omega arith)))
 
-  each_to : (a w : ℕ) → All P (range_with_len a w) → (p : ℕ) → InBay a w p → P p
+  each_to : (a w : ℕ) → AllByRecursion P (range_with_len a w) → (p : ℕ) → InBay a w p → P p
   each_to a zero all p i = absurd (omega arith)
   each_to a (suc w) all p i = ⊎_elim (λ e. subst P e all.0) (λ ne. each_to (a + 1) w all.1 p (omega arith, omega arith)) (cases_eq a p)
 
@@ -47,7 +47,7 @@ module _ (f : ℕ → Bool) where
       (λ p. (out_mark i, (0, omega arith, λ d. refl), p))
       (cases_Bool (f i))
 
-  pairs_apart : (a w : ℕ) → All (Meets f) (pairs a w) → (p q : ℕ) → a ≤ p → p < q → q < a + w → f p ≡ true → f q ≡ true → ⊥
+  pairs_apart : (a w : ℕ) → AllByRecursion (Meets f) (pairs a w) → (p q : ℕ) → a ≤ p → p < q → q < a + w → f p ≡ true → f q ≡ true → ⊥
   pairs_apart a zero all p q low rise high fp fq = absurd (omega arith)
   pairs_apart a (suc w) all p q low rise high fp fq =
       let r = all_parts (Meets f) (map (not_both a) (range_with_len (a + 1) w)) (pairs (a + 1) w) all in
@@ -56,7 +56,7 @@ module _ (f : ℕ → Bool) where
       (λ ne. pairs_apart (a + 1) w r.1 p q (omega arith) rise (omega arith) fp fq)
       (cases_eq a p)
 
-  pairs_met : (a w : ℕ) → ((p q : ℕ) → a ≤ p → p < q → q < a + w → f p ≡ true → f q ≡ true → ⊥) → All (Meets f) (pairs a w)
+  pairs_met : (a w : ℕ) → ((p q : ℕ) → a ≤ p → p < q → q < a + w → f p ≡ true → f q ≡ true → ⊥) → AllByRecursion (Meets f) (pairs a w)
   pairs_met a zero h = tt
   pairs_met a (suc w) h =
       All-append (Meets f) (map (not_both a) (range_with_len (a + 1) w)) (pairs (a + 1) w)
@@ -75,7 +75,7 @@ module _ (f : ℕ → Bool) where
       let n = length-map-range_with_len in_mark a w in
       (in_mark p, (p - a, omega arith, λ d. get_or-map-range_with_len in_mark a w (p - a) p d (omega arith) (omega arith)), h)
 
-  bay_one : (a w : ℕ) → All (Meets f) (bay_rules a w) → OneIn f a w
+  bay_one : (a w : ℕ) → AllByRecursion (Meets f) (bay_rules a w) → OneIn f a w
   bay_one a w all =
       let no = pairs_apart a w all.1 in
       record {
@@ -83,18 +83,18 @@ module _ (f : ℕ → Bool) where
         same = λ p q i j fp fq. ⊎_elim (λ e. e) (⊎_elim (λ l. absurd (no p q i.0 l j.1 fp fq)) (λ l. absurd (no q p j.0 l i.1 fq fp))) (cases_order p q);
       }
 
-  one_bay : (a w : ℕ) → OneIn f a w → All (Meets f) (bay_rules a w)
+  one_bay : (a w : ℕ) → OneIn f a w → AllByRecursion (Meets f) (bay_rules a w)
   one_bay a w o =
       let x = o.one in
       (some_met a w x.0 x.1 x.2, pairs_met a w (λ p q low rise high fp fq. omega (arith, o.same p q (low, omega arith) (omega arith, high) fp fq)))
 
-  bays_one : (a : ℕ) (ws : List ℕ) → All (Meets f) (bays_rules a ws) → OneInEach f a ws
+  bays_one : (a : ℕ) (ws : List ℕ) → AllByRecursion (Meets f) (bays_rules a ws) → OneInEach f a ws
   bays_one a [] all = tt
   bays_one a (w ∷ ws) all =
       let r = all_parts (Meets f) (bay_rules a w) (bays_rules (a + w) ws) all in
       (bay_one a w r.0, bays_one (a + w) ws r.1)
 
-  one_bays : (a : ℕ) (ws : List ℕ) → OneInEach f a ws → All (Meets f) (bays_rules a ws)
+  one_bays : (a : ℕ) (ws : List ℕ) → OneInEach f a ws → AllByRecursion (Meets f) (bays_rules a ws)
   one_bays a [] o = tt
   one_bays a (w ∷ ws) o = All-append (Meets f) (bay_rules a w) (bays_rules (a + w) ws) (one_bay a w o.0) (one_bays (a + w) ws o.1)
 

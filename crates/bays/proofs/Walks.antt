@@ -1,6 +1,6 @@
 -- The walks over bays and over the pairs of a bay.
 use Rattle.std.proofs.Common.{◌≡◌, ℕ, zero, suc, ◌+◌, ◌-◌, ◌*◌, ◌/◌, ◌<◌, ◌≤◌, List, [], ◌∷◌, map, length, Some, None, refl, ap, ◌∙◌, suc-mul, mul-suc, arith}
-use Rattle.std.specs.List.{slice_get, range_with_len, AllByRecursion as All}
+use Rattle.std.specs.List.{slice_get, range_with_len, AllByRecursion}
 use Rattle.std.specs.Option.{option_map}
 use Rattle.std.proofs.lemmas.List.FromFn.{length-map-range_with_len, get_or-map-range_with_len}
 use Rattle.std.proofs.ByRecursion.{All-append, All-map, All-get_or}
@@ -68,14 +68,14 @@ module _ (from width i left : ℕ) (in-bay : i < width) where
       turn ∙ later_row (from + i) (width - i - 1) left h ∙ ap (λ a. slice_get (pairs a (width - i - 1)) (left - (width - i - 1))) a ∙ ap (λ w. slice_get (pairs (from + (i + 1)) w) (left - (width - i - 1))) b
 
 -- each pair's rule has two marks
-two_marks : (from w : ℕ) → All (λ r. length r ≡ 2) (pairs from w)
+two_marks : (from w : ℕ) → AllByRecursion (λ r. length r ≡ 2) (pairs from w)
 two_marks from zero = tt
 two_marks from (suc w) =
     All-append (λ r. length r ≡ 2) (map (not_both from) (range_with_len (from + 1) w)) (pairs (from + 1) w)
     (All-map (λ r. length r ≡ 2) (not_both from) (range_with_len (from + 1) w) (each (range_with_len (from + 1) w)))
     (two_marks (from + 1) w)
   where
-    each : (js : List ℕ) → All (λ j. length (not_both from j) ≡ 2) js
+    each : (js : List ℕ) → AllByRecursion (λ j. length (not_both from j) ≡ 2) js
     each [] = tt
     each (j ∷ js) = (refl, each js)
 

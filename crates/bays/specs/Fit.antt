@@ -1,7 +1,7 @@
 -- How many rules the bays have, and why their book is sound.
 use Rattle.std.specs.Prelude.{◌≡◌, ℕ, zero, suc, ◌+◌, ◌*◌, ◌<◌, ◌≤◌, true, false, ◌&&◌, List, [], ◌∷◌, map, length, nat_le, refl}
 use Rattle.std.proofs.Common.{ap, arith, length-append}
-use Rattle.std.specs.List.{range_with_len, AllByRecursion as All}
+use Rattle.std.specs.List.{range_with_len, AllByRecursion}
 use Rattle.std.proofs.lemmas.List.FromFn.{length-map-range_with_len}
 use Rattle.std.proofs.lemmas.Bool.{and_parts, and_from, or_from, not_from_false, leb-true, le-leb, ne_eqb}
 use Rattle.book.specs.Meaning.{Sound, names, sound_rule, sound_rules}
@@ -23,10 +23,10 @@ pairs_few (suc w) h = omega (arith, pairs_few w (omega arith))
 -- what the test of the widths tells, part by part
 pub record Fit (ws : List ℕ) : Type 0 where
   pub some : 1 ≤ length ws
-  pub widths : All (λ w. (1 ≤ w) × (w ≤ 20)) ws
+  pub widths : AllByRecursion (λ w. (1 ≤ w) × (w ≤ 20)) ws
   pub few : total ws ≤ 120
 
-widths_fit : (ws : List ℕ) → fit_widths ws ≡ true → All (λ w. (1 ≤ w) × (w ≤ 20)) ws
+widths_fit : (ws : List ℕ) → fit_widths ws ≡ true → AllByRecursion (λ w. (1 ≤ w) × (w ≤ 20)) ws
 widths_fit [] h = tt
 widths_fit (w ∷ ws) h =
     let p = and_parts (nat_le 1 w && nat_le w 20) (fit_widths ws) h in
@@ -39,11 +39,11 @@ fit_from ws h =
     let q = and_parts (fit_widths ws) (nat_le (total ws) 120) p.1 in
     record { some = leb-true 1 (length ws) p.0; widths = widths_fit ws q.0; few = leb-true (total ws) 120 q.1 }
 
-pub rules_few : (ws : List ℕ) → All (λ w. (1 ≤ w) × (w ≤ 20)) ws → rule_count ws ≤ 21 * total ws
+pub rules_few : (ws : List ℕ) → AllByRecursion (λ w. (1 ≤ w) × (w ≤ 20)) ws → rule_count ws ≤ 21 * total ws
 rules_few [] a = omega arith
 rules_few (w ∷ ws) a = omega (arith, pairs_few w a.0.1, rules_few ws a.1, a.0.0)
 
-parts_some : (ws : List ℕ) → 1 ≤ length ws → All (λ w. (1 ≤ w) × (w ≤ 20)) ws → 1 ≤ total ws
+parts_some : (ws : List ℕ) → 1 ≤ length ws → AllByRecursion (λ w. (1 ≤ w) × (w ≤ 20)) ws → 1 ≤ total ws
 parts_some [] h a = absurd (omega arith)
 parts_some (w ∷ ws) h a = omega (arith, a.0.0)
 

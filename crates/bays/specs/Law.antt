@@ -1,6 +1,6 @@
 -- What the rules of bays say: exactly one part of each bay is in.
 use Rattle.std.specs.Prelude.{◌≡◌, ℕ, ◌+◌, ◌<◌, ◌≤◌, Bool, true, false, List, [], ◌∷◌}
-use Rattle.std.specs.List.{ContainsAt as Has, AllByRecursion as All}
+use Rattle.std.specs.List.{ContainsAt as Has, AllByRecursion}
 use Rattle.parts.specs.declared.Mark.{Mark}
 use Rattle.parts.specs.declared.Side.{Side}
 use Rattle.parts.specs.declared.Side.TheVariants.{In, Out}
@@ -31,7 +31,7 @@ OneInEach f from (w ∷ ws) = OneIn f from w × OneInEach f (from + w) ws
 
 -- a full choice meets all rules of these bays exactly if it has exactly one part of each bay in
 abbrev pub HoldOne : List ℕ → Type 0
-HoldOne ws = (f : ℕ → Bool) → (All (Meets f) (bay_book ws).rules → OneInEach f 1 ws) × (OneInEach f 1 ws → All (Meets f) (bay_book ws).rules)
+HoldOne ws = (f : ℕ → Bool) → (AllByRecursion (Meets f) (bay_book ws).rules → OneInEach f 1 ws) × (OneInEach f 1 ws → AllByRecursion (Meets f) (bay_book ws).rules)
 
 -- bays of 2 parts and of 1: 1 2; -1 -2; 3
 abbrev pub TwoBays : Type 0

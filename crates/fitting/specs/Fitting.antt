@@ -11,7 +11,7 @@ use Rattle.search.specs.declared.Forgetting.{Forgetting}
 use Rattle.search.specs.declared.Report.{Report}
 use Rattle.search.specs.declared.Told.{Told}
 use Rattle.search.specs.declared.Told.TheVariants.{Fits, NoneFits, Spent}
-use Rattle.search.specs.Trail.{Row, row}
+use Rattle.search.specs.Trail.{Row}
 use Rattle.search.specs.Machine.{Bench, Machine, Verdict, working, fits, none_fits, all_settled}
 use Rattle.search.specs.Calls.{Call, hold, run_for, refuses, call, opened, report, choice_row, named_row}
 use Rattle.search.specs.Law.{Among, Choice, Obeys, Keeps, shown}

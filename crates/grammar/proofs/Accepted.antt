@@ -1,6 +1,6 @@
 -- A text is accepted as a book exactly if the format allows it for that book and the tables take it.
 use Rattle.std.proofs.Common.{◌≡◌, ℕ, ◌≤◌, ltb, ◌⊎◌, List, [], ◌∷◌, length, Ok, Err, codes, Result, refl, ap, ◌∙◌, subst, inl, inr, arith}
-use Rattle.std.specs.List.{AllByRecursion as All}
+use Rattle.std.specs.List.{AllByRecursion}
 use Rattle.std.proofs.lemmas.Bool.{le-ltb, ltb-false, cond-false}
 use Rattle.parts.specs.declared.refusals.Fault.{Fault}
 use Rattle.book.specs.Meaning.{Rule, Rules}
@@ -79,7 +79,7 @@ module _ (marks ends end : ℕ) where
   head_step l ls (f ∷ fs) b e = let (size, head, rules) = size_got ls _ b e in inr (size, head_to l.at size (f ∷ fs) head, rules)
 
   -- and no others do
-  pub lines_head : (ps : List Piece) (b : Rules) → All (All Inline) (bytes_of ps) → from_head marks ends end ps ≡ Ok b → Fits marks ends b × Layout b.n b.rules (bytes_of ps)
+  pub lines_head : (ps : List Piece) (b : Rules) → AllByRecursion (AllByRecursion Inline) (bytes_of ps) → from_head marks ends end ps ≡ Ok b → Fits marks ends b × Layout b.n b.rules (bytes_of ps)
   lines_head [] b inline e = absurd (refused _ b e)
   lines_head (l ∷ ls) b inline e =
       let counts = counted_of l.bytes inline.0 in

@@ -1,7 +1,7 @@
 -- What is written of a book is a text that the format allows for it, and so reads back as that book.
 use Rattle.std.proofs.Common.{◌≡◌, ℕ, ◌<◌, ◌≤◌, true, false, List, [], ◌∷◌, ◌++◌, map, length, codes, decimal, sym, refl, ap, inl, arith}
 use Rattle.std.specs.Int.{IsInRange as Within}
-use Rattle.std.specs.List.{flat_map, AllByRecursion as All}
+use Rattle.std.specs.List.{flat_map, AllByRecursion}
 use Rattle.std.proofs.lemmas.Fmt.{decimal_nonempty}
 use Rattle.std.proofs.ByRecursion.{All-append, All-weaker}
 use Rattle.std.proofs.lemmas.List.{append-nil, append_assoc}
@@ -26,7 +26,7 @@ use Rattle.grammar.proofs.Head.{head_words}
 use Rattle.grammar.proofs.Accepted.{reading_is_the_format}
 
 -- a line has its blanks and its fields alone
-pub fields_inline : (ws : List (List ℕ)) (line : List ℕ) → Fields ws line → All Inline line
+pub fields_inline : (ws : List (List ℕ)) (line : List ℕ) → Fields ws line → AllByRecursion Inline line
 fields_inline [] line h = All-weaker Blank Inline (λ b k e. omega arith) line h
 fields_inline (w ∷ ws) line h =
     rw h.2 (All-append Inline h.0 (w ++ h.1) (All-weaker Blank Inline (λ b k e. omega arith) h.0 h.3)
@@ -40,10 +40,10 @@ alone : (w : List ℕ) → Field w → Fields (w ∷ []) w
 alone w f = ([], [], sym (append-nil w), tt, f, tt, tt)
 
 -- a field of bytes above the space
-visible : (w : List ℕ) → 0 < length w → All (λ b. 32 < b) w → Field w
+visible : (w : List ℕ) → 0 < length w → AllByRecursion (λ b. 32 < b) w → Field w
 visible w some h = (λ e. omega (arith, ap length e), All-weaker (λ b. 32 < b) _ (λ b k. (λ e. omega arith, λ e. omega arith)) w h)
 
-decimal_visible : (v : ℕ) → v < 100000 → All (λ b. 32 < b) (decimal v)
+decimal_visible : (v : ℕ) → v < 100000 → AllByRecursion (λ b. 32 < b) (decimal v)
 decimal_visible v h = All-weaker (Within 48 57) (λ b. 32 < b) (λ b d. omega arith) (decimal v) (decimal_digits v h)
 
 decimal_field : (v : ℕ) → v < 100000 → Field (decimal v)

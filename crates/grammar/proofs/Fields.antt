@@ -1,6 +1,6 @@
 -- The fields of a line are those that the format speaks of, and so are the fields that count.
 use Rattle.std.proofs.Common.{◌≡◌, ℕ, ◌+◌, true, false, eqb, List, [], ◌∷◌, ◌++◌, length, get_or, Decides, sym, refl, ap, ◌∙◌, inl, inr, arith}
-use Rattle.std.specs.List.{AllByRecursion as All}
+use Rattle.std.specs.List.{AllByRecursion}
 use Rattle.std.proofs.lemmas.List.{append-nil}
 use Rattle.std.proofs.lemmas.Bool.{eqb-true, eq-eqb, cond_both, not-false, not-true, both_ways, false≢true}
 use Rattle.std.proofs.lemmas.Bool.Decides.{Decides-or, Decides-eqb, not_from_Decides}
@@ -22,7 +22,7 @@ stops [] h = refl
 stops (b ∷ bs) h = rw (is_blank b h)
 
 -- blanks before a field are passed over
-pub fields_blank : (p : ℕ) (bs rest : List ℕ) → All Blank bs → fields p (bs ++ rest) ≡ fields (p + length bs) rest
+pub fields_blank : (p : ℕ) (bs rest : List ℕ) → AllByRecursion Blank bs → fields p (bs ++ rest) ≡ fields (p + length bs) rest
 fields_blank p [] rest h = ap (λ (q : ℕ). fields q rest) (omega arith)
 fields_blank p (b ∷ bs) rest h =
     let e : p + 1 + length bs ≡ p + length (b ∷ bs) = omega arith in
@@ -37,7 +37,7 @@ fields_field p (b ∷ c ∷ w) rest h parts =
     let more = fields_field (p + 1) (c ∷ w) rest (λ e. omega (arith, ap length e), h.1.1) parts in
     rw (no_blank b h.1.0.0, more, no_blank c h.1.1.0.0, e)
 
-pub fields_none : (p : ℕ) (line : List ℕ) → All Blank line → fields p line ≡ []
+pub fields_none : (p : ℕ) (line : List ℕ) → AllByRecursion Blank line → fields p line ≡ []
 fields_none p line h = ap (fields p) (sym (append-nil line)) ∙ fields_blank p line [] h
 
 -- a line of these fields has just these fields
@@ -62,14 +62,14 @@ field_grows b p [] ps k on h = absurd (false≢true on)
 field_grows b p (c ∷ bs) [] k on h = absurd (both_ways (blank c) (not-true (blank c) on) (is_blank c h.0))
 field_grows b p (c ∷ bs) (q ∷ ps) k on h = by h.0 h.2 h.3
   where
-    by : (before : List ℕ) → c ∷ bs ≡ before ++ (q.bytes ++ h.1) → All Blank before → Fields (bytes_of (grown b p (q ∷ ps))) (b ∷ c ∷ bs)
+    by : (before : List ℕ) → c ∷ bs ≡ before ++ (q.bytes ++ h.1) → AllByRecursion Blank before → Fields (bytes_of (grown b p (q ∷ ps))) (b ∷ c ∷ bs)
     by [] e a = ([], h.1, ap (λ l. b ∷ l) e, tt, (λ e. omega (arith, ap length e), (k, h.4.1)), h.5, h.6)
     by (d ∷ before) e a =
         let same : c ≡ d = cc in
         absurd (both_ways (blank c) (not-true (blank c) on) (is_blank c (rw same a.0)))
 
 -- each line is one of its fields
-pub fields_of : (p : ℕ) (line : List ℕ) → All Inline line → Fields (bytes_of (fields p line)) line
+pub fields_of : (p : ℕ) (line : List ℕ) → AllByRecursion Inline line → Fields (bytes_of (fields p line)) line
 fields_of p [] h = tt
 fields_of p (b ∷ bs) h =
     let rest = fields_of (p + 1) bs h.1 in
@@ -95,7 +95,7 @@ counts [] line h = inr h
 counts (w ∷ ws) line h = h
 
 -- each line is one of its fields that count
-pub counted_of : (line : List ℕ) → All Inline line → Counts (bytes_of (counted line)) line
+pub counted_of : (line : List ℕ) → AllByRecursion Inline line → Counts (bytes_of (counted line)) line
 counted_of [] h = inr tt
 counted_of (b ∷ bs) h =
     cond_both (eqb b 99) _ _ (λ ps. Counts (bytes_of ps) (b ∷ bs)) (λ e. inl (eqb-true b 99 e)) (λ _. counts _ (b ∷ bs) (fields_of 0 (b ∷ bs) h))
@@ -107,7 +107,7 @@ counted_are w ws (b ∷ bs) n h =
     cond_both (eqb b 99) _ _ (λ ps. bytes_of ps ≡ w ∷ ws) (λ e. absurd (n (by w h.0 h.4.0 h.2 h.3 (eqb-true b 99 e))))
     (λ _. fields_are 0 (w ∷ ws) (b ∷ bs) h)
   where
-    by : (w before : List ℕ) → (w ≡ [] → ⊥) → b ∷ bs ≡ before ++ (w ++ h.1) → All Blank before → b ≡ 99 → get_or w 0 0 ≡ 99
+    by : (w before : List ℕ) → (w ≡ [] → ⊥) → b ∷ bs ≡ before ++ (w ++ h.1) → AllByRecursion Blank before → b ≡ 99 → get_or w 0 0 ≡ 99
     by [] before some e a is = absurd (some refl)
     by (c ∷ w) [] some e a is = cc
     by (c ∷ w) (d ∷ before) some e a is = let same : d ≡ b = cc in omega (arith, a.0)

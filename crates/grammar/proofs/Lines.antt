@@ -1,6 +1,6 @@
 -- The lines of a text are those that the format speaks of.
 use Rattle.std.proofs.Common.{◌≡◌, ℕ, ◌+◌, eqb, List, [], ◌∷◌, ◌++◌, map, length, refl, ap, inl, inr, arith}
-use Rattle.std.specs.List.{AllByRecursion as All}
+use Rattle.std.specs.List.{AllByRecursion}
 use Rattle.std.proofs.lemmas.Bool.{ne_eqb, eqb-true, eqb-false, cond_both}
 use Rattle.grammar.specs.Pieces.{Piece, grown, lines}
 use Rattle.grammar.specs.Format.{Inline, Lines}
@@ -10,14 +10,14 @@ abbrev pub bytes_of : List Piece → List (List ℕ)
 bytes_of ps = map (λ (p : Piece). p.bytes) ps
 
 -- a line that is ended by a line feed is the first line
-pub lines_feed : (p : ℕ) (l rest : List ℕ) → All Inline l → lines p (l ++ 10 ∷ rest) ≡ record { at = p; bytes = l } ∷ lines (p + length l + 1) rest
+pub lines_feed : (p : ℕ) (l rest : List ℕ) → AllByRecursion Inline l → lines p (l ++ 10 ∷ rest) ≡ record { at = p; bytes = l } ∷ lines (p + length l + 1) rest
 lines_feed p [] rest h = let e : p + 1 ≡ p + 0 + 1 = omega arith in ap (λ (q : ℕ). record { at = p; bytes = [] } ∷ lines q rest) e
 lines_feed p (b ∷ l) rest h =
     let e : p + 1 + length l + 1 ≡ p + length (b ∷ l) + 1 = omega arith in
     rw (ne_eqb b 10 h.0, lines_feed (p + 1) l rest h.1, e)
 
 -- the last line may lack its line feed
-pub lines_last : (p : ℕ) (l : List ℕ) → All Inline l → (l ≡ [] → ⊥) → lines p l ≡ record { at = p; bytes = l } ∷ []
+pub lines_last : (p : ℕ) (l : List ℕ) → AllByRecursion Inline l → (l ≡ [] → ⊥) → lines p l ≡ record { at = p; bytes = l } ∷ []
 lines_last p [] h some = absurd (some refl)
 lines_last p (b ∷ []) h some = rw (ne_eqb b 10 h.0)
 lines_last p (b ∷ c ∷ l) h some = rw (ne_eqb b 10 h.0, lines_last (p + 1) (c ∷ l) h.1 (λ e. omega (arith, ap length e)))
@@ -49,6 +49,6 @@ lines_of p (b ∷ bs) =
     (λ e. (tt, inl (bs, ap (λ c. c ∷ bs) (eqb-true b 10 e), lines_of (p + 1) bs)))
     (λ e. grows b p bs (lines (p + 1) bs) (eqb-false b 10 e) (lines_of (p + 1) bs))
 
-pub lines_inline : (ls : List (List ℕ)) (text : List ℕ) → Lines ls text → All (All Inline) ls
+pub lines_inline : (ls : List (List ℕ)) (text : List ℕ) → Lines ls text → AllByRecursion (AllByRecursion Inline) ls
 lines_inline [] text h = tt
 lines_inline (l ∷ ls) text h = (h.0, elim h.1 [ inl g ↦ lines_inline ls g.0 g.2 | inr g ↦ rw g.1 tt ])

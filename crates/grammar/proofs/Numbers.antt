@@ -3,7 +3,7 @@ use Rattle.std.proofs.Common.{◌≡◌, ℕ, zero, suc, ◌+◌, ◌-◌, ◌*�
 use lib.Dec.{eqb-suc-zero}
 use Rattle.std.specs.Option.{option_map}
 use Rattle.std.specs.Int.{IsInRange as Within}
-use Rattle.std.specs.List.{AllByRecursion as All}
+use Rattle.std.specs.List.{AllByRecursion}
 use Rattle.std.proofs.lemmas.Fmt.{digits_decimal, digits_value-decimal, decimal-digits_value, decimal_nonempty, first_decimal, decimal_digit, length-decimal-le}
 use Rattle.std.proofs.ByRecursion.{All-get_or}
 use Rattle.std.proofs.lemmas.Str.Parse.{IsNumeralModel, numerals_by_fold, digits_value_short}
@@ -21,16 +21,16 @@ abbrev read_on : ℕ → List ℕ → ℕ
 read_on n [] = n
 read_on n (c ∷ cs) = read_on (n * 10 + (c - 48)) cs
 
-own : IsNumeralModel (All (Within 48 57)) (read_on 0)
+own : IsNumeralModel (AllByRecursion (Within 48 57)) (read_on 0)
 own = numerals_by_fold _ (search rules) read_on (search rules)
 
-digits_are : (v : ℕ) (ds : List ℕ) → All (Within 48 57) ds → digits_from v ds ≡ Some (read_on v ds)
+digits_are : (v : ℕ) (ds : List ℕ) → AllByRecursion (Within 48 57) ds → digits_from v ds ≡ Some (read_on v ds)
 digits_are v [] h = refl
 digits_are v (c ∷ cs) h =
     let e : ltb c 48 || ltb 57 c ≡ false = grind (arith, nat_tests) in
     rw e (digits_are (v * 10 + (c - 48)) cs h.1)
 
-digits_of : (v n : ℕ) (ds : List ℕ) → digits_from v ds ≡ Some n → All (Within 48 57) ds × (read_on v ds ≡ n)
+digits_of : (v n : ℕ) (ds : List ℕ) → digits_from v ds ≡ Some n → AllByRecursion (Within 48 57) ds × (read_on v ds ≡ n)
 digits_of v n [] e = (tt, cc)
 digits_of v n (c ∷ cs) e =
     let h = past (ltb c 48 || ltb 57 c) None _ _ (none n) e in
@@ -46,7 +46,7 @@ number_long c d cs = rw (eqb-suc-zero (length cs))
 
 -- digits with no 0 before them, five at most
 abbrev Plain : List ℕ → Type 0
-Plain ds = All (Within 48 57) ds × (0 < length ds) × (length ds ≤ 5) × (get_or ds 0 0 ≡ 48 → length ds ≡ 1)
+Plain ds = AllByRecursion (Within 48 57) ds × (0 < length ds) × (length ds ≤ 5) × (get_or ds 0 0 ≡ 48 → length ds ≡ 1)
 
 number_are : (ds : List ℕ) → Plain ds → number ds ≡ Some (read_on 0 ds)
 number_are [] h = absurd (omega (arith, h.1))
@@ -83,7 +83,7 @@ decimal_number w v e =
     let small = digits_value_short own w 5 p.0.0 p.0.2 in
     (sym (decimal-digits_value own w p.0.0 p.0.1 p.0.3 (omega arith)) ∙ ap decimal p.1, omega arith)
 
-pub decimal_digits : (v : ℕ) → v < 100000 → All (Within 48 57) (decimal v)
+pub decimal_digits : (v : ℕ) → v < 100000 → AllByRecursion (Within 48 57) (decimal v)
 decimal_digits v h = digits_decimal own v (omega arith)
 
 first_digit : (v : ℕ) → v < 100000 → Within 48 57 (get_or (decimal v) 0 0)

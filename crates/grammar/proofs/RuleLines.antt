@@ -1,6 +1,6 @@
 -- The lines after the head read as rules exactly if the format allows them for these rules and the tables take them.
 use Rattle.std.proofs.Common.{◌≡◌, ℕ, ◌+◌, ◌<◌, ◌≤◌, true, cond, ltb, ◌⊎◌, List, [], ◌∷◌, length, Ok, Err, codes, Result, refl, ap, ◌∙◌, subst, inl, inr, arith}
-use Rattle.std.specs.List.{AllByRecursion as All}
+use Rattle.std.specs.List.{AllByRecursion}
 use Rattle.std.proofs.lemmas.Bool.{and_parts, and_from, lt-ltb, le-ltb, ltb-true, ltb-false, cond-true, cond-false, true≢false}
 use Rattle.parts.specs.declared.refusals.Fault.{Fault}
 use Rattle.parts.specs.declared.refusals.Refusal.TheVariants.{RuleCount}
@@ -30,7 +30,7 @@ line_written n (m ∷ r) line few h f =
     let k = sound_parts n m r h in
     counted_are (mark_field m) (rule_words r) line (first_mark m (omega arith)) f
 
-pub written_line : (r : Rule) (line : List ℕ) → All Inline line → Written r (counted line) → RuleLine r line
+pub written_line : (r : Rule) (line : List ℕ) → AllByRecursion Inline line → Written r (counted line) → RuleLine r line
 written_line [] line h w = subst (λ ws. Counts ws line) w (counted_of line h)
 written_line (m ∷ r) line h w = subst (λ ws. Counts ws line) w (counted_of line h)
 
@@ -126,7 +126,7 @@ module _ (room : Room) (end m : ℕ) where
           inr (r, more, is, ltb-true done m lt, rule, rest)
 
   -- and no others
-  pub rules_to : (ps : List Piece) (rs : List Rule) (done used : ℕ) → All (All Inline) (bytes_of ps) → used ≤ limit room.marks → done ≤ m → done ≤ room.ends
+  pub rules_to : (ps : List Piece) (rs : List Rule) (done used : ℕ) → AllByRecursion (AllByRecursion Inline) (bytes_of ps) → used ≤ limit room.marks → done ≤ m → done ≤ room.ends
       → rules_of room end m done used ps ≡ Ok rs → Rest rs (bytes_of ps) × Given room m done used rs
   rules_to [] rs done used inline fits le few e =
       let (over, is) = past (ltb done m) _ _ _ (refused _ rs) e in

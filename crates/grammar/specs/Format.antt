@@ -1,6 +1,6 @@
 -- The format of a book's text, as a grammar: which texts stand for which book.
 use Rattle.std.specs.Prelude.{◌≡◌, ℕ, ◌≤◌, true, ◌⊎◌, List, [], ◌∷◌, ◌++◌, map, length, codes, decimal, ◌≢◌}
-use Rattle.std.specs.List.{AllByRecursion as All}
+use Rattle.std.specs.List.{AllByRecursion}
 use Rattle.book.specs.Meaning.{Rule, Rules, sound_rules, count_marks}
 use Rattle.grammar.specs.Writing.{mark_field}
 
@@ -14,7 +14,7 @@ Inline b = b ≡ 10 → ⊥
 
 -- a field: one byte or more, none of them a blank or a line feed
 abbrev pub Field : List ℕ → Type 0
-Field w = (w ≢ []) × All (λ b. (Blank b → ⊥) × Inline b) w
+Field w = (w ≢ []) × AllByRecursion (λ b. (Blank b → ⊥) × Inline b) w
 
 -- where a field ends: at the line's end, or before a blank
 abbrev pub Parts : List ℕ → Type 0
@@ -23,9 +23,9 @@ Parts (b ∷ bs) = Blank b
 
 -- a line with these fields: blanks stand between them, at least one, and may stand before and after
 abbrev pub Fields : List (List ℕ) → List ℕ → Type 0
-Fields [] line = All Blank line
+Fields [] line = AllByRecursion Blank line
 Fields (w ∷ ws) line =
-    (before : List ℕ) × (rest : List ℕ) × (line ≡ before ++ (w ++ rest)) × All Blank before × Field w × Parts rest × Fields ws rest
+    (before : List ℕ) × (rest : List ℕ) × (line ≡ before ++ (w ++ rest)) × AllByRecursion Blank before × Field w × Parts rest × Fields ws rest
 
 -- the line's first byte is c
 abbrev pub Comment : List ℕ → Type 0
@@ -34,7 +34,7 @@ Comment (b ∷ bs) = b ≡ 99
 
 -- a line that is passed over
 abbrev pub Skipped : List ℕ → Type 0
-Skipped line = Comment line ⊎ All Blank line
+Skipped line = Comment line ⊎ AllByRecursion Blank line
 
 -- the head: "p cnf N M"
 abbrev pub Head : ℕ → ℕ → List ℕ → Type 0
@@ -58,7 +58,7 @@ pub data Layout : ℕ → List Rule → List (List ℕ) → Type 0 where
 -- a text of these lines, each ended by one line feed; the last may lack it
 abbrev pub Lines : List (List ℕ) → List ℕ → Type 0
 Lines [] text = text ≡ []
-Lines (l ∷ ls) text = All Inline l × (((rest : List ℕ) × (text ≡ l ++ 10 ∷ rest) × Lines ls rest) ⊎ ((text ≡ l) × (ls ≡ []) × (l ≢ [])))
+Lines (l ∷ ls) text = AllByRecursion Inline l × (((rest : List ℕ) × (text ≡ l ++ 10 ∷ rest) × Lines ls rest) ⊎ ((text ≡ l) × (ls ≡ []) × (l ≢ [])))
 
 -- the text is one of those that the format allows for the book
 pub record Format (b : Rules) (text : List ℕ) : Type 0 where

@@ -1,6 +1,6 @@
 -- The loop over the parts of a ranked list, and what its first open mark is to a row.
 use Rattle.std.proofs.Common.{◌≡◌, ℕ, zero, suc, ◌+◌, ◌-◌, ◌<◌, true, false, List, [], ◌∷◌, length, get_or, Some, None, Option, unwrap_or, sym, refl, ◌∙◌, ⊎_elim, add-one, arith, MatchOption}
-use Rattle.std.specs.List.{AllByRecursion as All}
+use Rattle.std.specs.List.{AllByRecursion}
 use Rattle.std.proofs.lemmas.Bool.{and_parts, and_from, cases_Bool, cond-true, cond-false, and_right, eq-eqb, eqb-true, or_left, or_right, both_ways}
 use Rattle.parts.specs.declared.Mark.{Mark}
 use Rattle.parts.specs.Codes.{is_row}
@@ -14,7 +14,7 @@ once_more ms k e h = rw add-one (and_from _ _ (eq-eqb _ 1 (rw add-one at e)) h)
 pub not_once : (ms : List Mark) (n k : ℕ) → k < n → (times ms (k + 1) ≡ 1 → ⊥) → each_once n ms ≡ false
 not_once ms n k l f = ⊎_elim (λ h. absurd (f (rw add-one ((once_decides ms n).0 h k l)))) (λ h. h) (cases_Bool (each_once n ms))
 
-pub row_within : (row : List ℕ) (ms xs : List Mark) → ranks ms ≡ true → is_row (length ms) row ≡ true → xs ≡ ms → All (Within (length row)) xs
+pub row_within : (row : List ℕ) (ms xs : List Mark) → ranks ms ≡ true → is_row (length ms) row ≡ true → xs ≡ ms → AllByRecursion (Within (length row)) xs
 row_within row ms xs h r e =
     let l = eqb-true (length row) (length ms) (and_parts _ _ r).0 in
     rw (e, l) (ranks_within ms h)

@@ -2,7 +2,7 @@
 use Rattle.std.specs.Prelude.{◌≡◌, ℕ, zero, suc, ◌+◌, ◌-◌, ◌<◌, ◌≤◌, true, false, ◌⊎◌, List, [], ◌∷◌, length, Some, None, Decides, Option, MatchOption, ◌==◌, nat_eq, nat_le, slice_index_or, refl}
 use Rattle.std.proofs.Common.{ap, ◌∙◌, inl, inr, ⊎_elim, arith}
 use Rattle.std.specs.Option.{unwrap_or}
-use Rattle.std.specs.List.{AllByRecursion as All}
+use Rattle.std.specs.List.{AllByRecursion}
 use Rattle.std.proofs.lemmas.Bool.{and_parts, leb-true, eqb-true, eq-eqb, ne_eqb, cond_both, both_ways}
 use Rattle.std.proofs.lemmas.Bool.Decides.{eqb_tells, Decides-eqb, Decides-below_and}
 use Rattle.parts.specs.declared.Mark.{Mark}
@@ -55,18 +55,18 @@ hits_few k (m ∷ ms) = ⊎_elim (λ z. omega (arith, hits_few k ms)) (λ z. ome
 abbrev pub Within : ℕ → Mark → Type 0
 Within n m = (1 ≤ m.part) × (m.part ≤ n)
 
-hits_all : (k : ℕ) (ms : List Mark) → all_hits k ms ≡ length ms → All (Within k) ms
+hits_all : (k : ℕ) (ms : List Mark) → all_hits k ms ≡ length ms → AllByRecursion (Within k) ms
 hits_all k [] h = tt
 hits_all k (m ∷ ms) h =
     let few = hits_few k ms in
     ⊎_elim (λ z. absurd (omega arith)) (λ z. ((z.1, z.2), hits_all k ms (omega arith))) (hits_tell k m.part)
 
-pub ranks_within : (ms : List Mark) → ranks ms ≡ true → All (Within (length ms)) ms
+pub ranks_within : (ms : List Mark) → ranks ms ≡ true → AllByRecursion (Within (length ms)) ms
 ranks_within ms h = hits_all (length ms) ms (hits_once (length ms) ms (and_parts (a_size (length ms)) (each_once (length ms) ms) h).1)
 
 -- the first open mark, or none where all are settled
 abbrev pub Closed : List ℕ → List Mark → Type 0
-Closed row ms = All (λ m. open_in row m.part ≡ false) ms
+Closed row ms = AllByRecursion (λ m. open_in row m.part ≡ false) ms
 
 -- the mark is good, and its part is open
 abbrev pub Found : (Mark → Type 0) → List ℕ → Mark → Type 0
@@ -76,7 +76,7 @@ by_cases : {X : Type 0} {P P' : Type 0} (Q Q' : X → Type 0) (o : Option X) →
 by_cases Q Q' None f g h = f h
 by_cases Q Q' (Some x) f g h = g x h
 
-pub first_found : (P : Mark → Type 0) (row : List ℕ) (ms : List Mark) → All P ms → MatchOption (first_open row ms) (Closed row ms) (Found P row)
+pub first_found : (P : Mark → Type 0) (row : List ℕ) (ms : List Mark) → AllByRecursion P ms → MatchOption (first_open row ms) (Closed row ms) (Found P row)
 first_found P row [] a = tt
 first_found P row (m ∷ ms) a =
     cond_both (open_in row m.part) (Some m) (first_open row ms) (λ o. MatchOption o (Closed row (m ∷ ms)) (Found P row))

@@ -1,6 +1,6 @@
 // The picker of the first open mark of a ranked list.
 ghost use Rattle.std.specs.Prelude.{◌≡◌, ◌≤◌, true, false, length, MatchResult};
-ghost use Rattle.std.specs.List.{AllByRecursion as All};
+ghost use Rattle.std.specs.List.{AllByRecursion};
 ghost use Rattle.parts.specs.declared.refusals.Refusal.TheVariants.{NotAPicker};
 ghost use Rattle.picker.specs.Ranking.{times, each_once, ranks, first_open, ranked_picks};
 ghost use Rattle.picker.specs.RankedSound.{Within, ranked_sound};
@@ -94,7 +94,7 @@ fn times_named(list: &[Mark], part: usize) -> usize
 
 // The first mark of the list whose part is open in the row.
 fn first_open(row: &[u8], list: &[Mark]) -> Option<Mark>
-    requires { All (Within (length row.now)) list.now }
+    requires { AllByRecursion (Within (length row.now)) list.now }
     ensures { result ≡ first_open row.now list.now }
 {
     for mark in list {

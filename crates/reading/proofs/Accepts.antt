@@ -2,7 +2,7 @@
 use Rattle.std.proofs.Common.{◌≡◌, ◌+◌, ◌≤◌, true, eqb, List, [], ◌∷◌, ◌++◌, map, length, ℤ, pos, negsuc, nat_abs, Ok, sym, refl, ap, ◌∙◌, subst, arith}
 use Rattle.std.proofs.lemmas.List.{append-nil, append_assoc, length_push}
 use Rattle.std.proofs.lemmas.Bool.{cond_both, eqb-true, eqb-false}
-use Rattle.std.specs.List.{AllByRecursion as All}
+use Rattle.std.specs.List.{AllByRecursion}
 use Rattle.book.specs.Meaning.{Rule}
 use Rattle.book.specs.Tables.{mark_from, number_from}
 use Rattle.grammar.specs.declared.Place.{Place}
@@ -18,7 +18,7 @@ use Rattle.reading.proofs.Stores.{stored_zero, stored_mark}
 -- a rule that was let through after the marks `seen`: it goes on with the line's numbers, and the tables take it
 pub record Stores (room : Room) (place : Place) (seen : Rule) (fs : List Piece) (r : Rule) : Type 0 where
   pub goes_on : r ≡ seen ++ map mark_from (stored fs)
-  pub small : All (λ z. nat_abs z ≤ room.n) (stored fs)
+  pub small : AllByRecursion (λ z. nat_abs z ≤ room.n) (stored fs)
   pub fits : place.used + length seen ≤ limit room.marks → place.used + length r ≤ limit room.marks
   pub entry : is_empty seen ≡ true → place.rule ≤ room.ends
 
@@ -35,7 +35,7 @@ rule_stores room place seen (f ∷ fs) r e =
     ends : (z : ℤ) → Taken room place seen z → stored (f ∷ fs) ≡ [] → seen ≡ r → Stores room place seen (f ∷ fs) r
     ends z t none is = record {
       goes_on = sym is ∙ sym (ap (λ zs. seen ++ map mark_from zs) none ∙ append-nil seen);
-      small = subst (λ (zs : List ℤ). All (λ z. nat_abs z ≤ room.n) zs) (sym none) tt;
+      small = subst (λ (zs : List ℤ). AllByRecursion (λ z. nat_abs z ≤ room.n) zs) (sym none) tt;
       fits = λ h. rw (← is) h;
       entry = t.line;
     }
@@ -43,7 +43,7 @@ rule_stores room place seen (f ∷ fs) r e =
     goes : (z : ℤ) → Taken room place seen z → (nat_abs z ≡ 0 → ⊥) → stored (f ∷ fs) ≡ z ∷ stored fs → Stores room place (seen ++ mark_from z ∷ []) fs r → Stores room place seen (f ∷ fs) r
     goes z t some is s = record {
       goes_on = s.goes_on ∙ append_assoc seen (mark_from z ∷ []) (map mark_from (stored fs)) ∙ ap (λ zs. seen ++ map mark_from zs) (sym is);
-      small = subst (λ (zs : List ℤ). All (λ z. nat_abs z ≤ room.n) zs) (sym is) (t.within, s.small);
+      small = subst (λ (zs : List ℤ). AllByRecursion (λ z. nat_abs z ≤ room.n) zs) (sym is) (t.within, s.small);
       fits = λ h. s.fits (rw length_push (omega (arith, t.fits some)));
       entry = t.line;
     }

@@ -1,7 +1,7 @@
 -- The second pass, line by line.
 use Rattle.std.proofs.Common.{◌≡◌, ℕ, suc, ◌+◌, ◌<◌, ◌≤◌, ltb, List, [], ◌∷◌, ◌++◌, map, length, drop, set, ℤ, nat_abs, Ok, sym, refl, ap, ◌∙◌, subst, inl, inr, arith}
 use Rattle.std.proofs.lemmas.List.{at_drop_all, length-append, length-map}
-use Rattle.std.specs.List.{between, prefix_len, AllByRecursion as All}
+use Rattle.std.specs.List.{between, prefix_len, AllByRecursion}
 use Rattle.book.specs.Meaning.{Rule, count_marks}
 use Rattle.book.specs.Tables.{mark_table, end_table, number_from}
 use Rattle.grammar.specs.declared.Room.{Room}
@@ -65,7 +65,7 @@ module _ (room : Room) (text : List ℕ) (m : ℕ) (rs : List Rule) (marks₀ : 
       pub more : List Rule
       pub left_is : f.left ≡ rule ∷ more
       pub numbers : map number_from rule ≡ stored (fields 0 line)
-      pub small : All (λ z. nat_abs z ≤ room.n) (stored (fields 0 line))
+      pub small : AllByRecursion (λ z. nat_abs z ≤ room.n) (stored (fields 0 line))
       pub few : used + length rule ≤ limit room.marks
       pub reads : rules_of room (length text) m (done + 1) (used + length rule) (lines (end + 1) (drop (end + 1) text)) ≡ Ok more
 
@@ -84,7 +84,7 @@ module _ (room : Room) (text : List ℕ) (m : ℕ) (rs : List Rule) (marks₀ : 
                 more = more;
                 left_is = is;
                 numbers = ap (map number_from) t.goes_on ∙ numbers_back (stored (counted line)) ∙ same;
-                small = subst (λ (zs : List ℤ). All (λ z. nat_abs z ≤ room.n) zs) same t.small;
+                small = subst (λ (zs : List ℤ). AllByRecursion (λ z. nat_abs z ≤ room.n) zs) same t.small;
                 few = t.fits (omega (arith, f.few));
                 reads = rest;
               }

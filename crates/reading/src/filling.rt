@@ -1,6 +1,6 @@
 // The second pass of a reading: it fills the tables from a text that the first pass let through.
 ghost use Rattle.std.specs.Prelude.{◌≡◌, ℕ, ◌+◌, ◌≤◌, List, ◌++◌, length, ℤ, unsigned_abs};
-ghost use Rattle.std.specs.List.{AllByRecursion as All};
+ghost use Rattle.std.specs.List.{AllByRecursion};
 ghost use Rattle.grammar.specs.Pieces.{fields};
 ghost use Rattle.book.specs.Meaning.{Rule};
 ghost use Rattle.book.specs.Tables.{mark_table, end_table};
@@ -12,7 +12,7 @@ use crate::pieces::{Class, first_field, next_field, run_end};
 
 // Stores the marks on a rule's line from entry `used` on, and tells the entry after them.
 fn fill_rule(line: &[u8], used: usize, marks: &mut [i16]) -> usize
-    requires small { All (λ z. unsigned_abs z ≤ 120) (stored (fields 0 line.now)) }
+    requires small { AllByRecursion (λ z. unsigned_abs z ≤ 120) (stored (fields 0 line.now)) }
     requires room { used + length (stored (fields 0 line.now)) ≤ length marks.old }
     ensures value { result ≡ used + length (stored (fields 0 line.now)) }
     ensures front { (before all more : List ℤ) → Front before all (stored (fields 0 line.now) ++ more) marks.old used → Front before all more marks.new result }

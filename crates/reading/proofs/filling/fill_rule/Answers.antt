@@ -1,6 +1,6 @@
 use Rattle.std.proofs.Common.{◌≡◌, ◌+◌, ◌≤◌, List, ◌++◌, length, drop, set, ℤ, nat_abs, sym, ap, ◌∙◌, subst, arith, w16, w32, SFits, to_z, of_z, rules}
 use Rattle.std.proofs.lemmas.Int.{to_z-of_z}
-use Rattle.std.specs.List.{AllByRecursion as All}
+use Rattle.std.specs.List.{AllByRecursion}
 use Rattle.grammar.specs.Pieces.{fields}
 use Rattle.reading.specs.Fills.{stored, Front}
 use Rattle.reading.proofs.Fronts.{front_more}
@@ -22,7 +22,7 @@ loop-span-preserved c =
     let z = c.in-Some-signed.number in
     let rest = stored (fields c.in-Some.span.end (drop c.in-Some.span.end c.args.line.now)) in
     let e = stored_mark c.in-Some.ensures.first z c.in-Some-signed.ensures.value (λ h. c.if-number-eq0.false (zero_bits z h)) in
-    let small = subst (λ (xs : List ℤ). All (λ y. nat_abs y ≤ 120) xs) e c.loop-span.invariant.1 in
+    let small = subst (λ (xs : List ℤ). AllByRecursion (λ y. nat_abs y ≤ 120) xs) e c.loop-span.invariant.1 in
     let wide : SFits w32 z = search rules in
     let narrow : SFits w16 z = short z small.0 in
     let same : to_z w16 (of_z w16 (to_z w32 (of_z w32 z))) ≡ z = ap (λ y. to_z w16 (of_z w16 y)) (to_z-of_z w32 z wide) ∙ to_z-of_z w16 z narrow in (
