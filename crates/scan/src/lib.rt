@@ -46,7 +46,7 @@ pub fn scan_under<R: RuleList>(list: &R, trail: &Trail) -> Found
 }
 
 // The first broken rule of the list under a settled row, else the first pressing one.
-fn scan<R: RuleList>(list: &R, row: &[u8]) -> Found
+pub(crate) fn scan<R: RuleList>(list: &R, row: &[u8]) -> Found
     requires { (R.RuleList.listed list.now).n ≤ length row.now }
     ensures { result ≡ scan_of row.now 1 (R.RuleList.listed list.now).rules }
 {

@@ -39,7 +39,7 @@ impl Trail {
     }
 
     // One more part is settled; it was open.
-    fn push(&mut self, mark: Mark, kind: Kind)
+    pub(crate) fn push(&mut self, mark: Mark, kind: Kind)
         requires { (1 ≤ mark.part) × ((mark.part ≤ 120) × (slice_index self.old.row (mark.part - 1) ≡ 0)) }
         ensures { trail_of self.new ≡ record { mark = mark; kind = kind } ∷ trail_of self.old }
     {

@@ -4,7 +4,7 @@
 
 mod comparing;
 mod history;
-mod lessons;
+mod kept_lessons;
 mod makes;
 mod packed;
 mod replay;

@@ -1,7 +1,7 @@
 // Replaying a history on one session.
 use crate::comparing::{Tally, Trial};
 use crate::history::{Call, Reply, START, Standing, Verdict};
-use crate::lessons::{Closed, compare_codes, compare_marks};
+use crate::kept_lessons::{Closed, compare_codes, compare_marks};
 use anyhow::anyhow;
 use book::Book;
 use parts::refusals::Refusal;
