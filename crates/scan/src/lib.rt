@@ -17,9 +17,6 @@ pub trait RuleList {
 
     ghost within: { (l : Self) → Within (listed l) };
 
-    // at most 120 parts
-    ghost few: { (l : Self) → (listed l).n ≤ 120 };
-
     fn count(&self) -> usize
         ensures { result ≡ length (listed self.now).rules };
 
@@ -28,6 +25,11 @@ pub trait RuleList {
 
     fn mark(&self, rule: usize, place: usize) -> Option<Mark>
         ensures { result ≡ mark_in (listed self.now).rules rule place };
+}
+
+// Rules over at most 120 parts, as many as a trail's row has codes.
+pub trait FewParts: RuleList {
+    ghost few: { (l : Self) → (Self.listed l).n ≤ 120 };
 }
 
 // What a scan finds: the first broken rule, else the first pressing one with its open mark.
@@ -39,7 +41,7 @@ pub enum Found {
 }
 
 // The first broken rule of the list under a trail, else the first pressing one.
-pub fn scan_under<R: RuleList>(list: &R, trail: &Trail) -> Found
+pub fn scan_under<R: FewParts>(list: &R, trail: &Trail) -> Found
     ensures { result ≡ scan_of (row_of 120 (trail_of trail.now)) 1 (R.RuleList.listed list.now).rules }
 {
     scan(list, trail.row())

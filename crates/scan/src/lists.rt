@@ -2,7 +2,7 @@
 ghost use Rattle.std.specs.Prelude.{map};
 ghost use Rattle.scan.specs.Lists.{book_list, shelf_list, book_within, shelf_within, as_many};
 
-use crate::RuleList;
+use crate::{FewParts, RuleList};
 use book::Book;
 use parts::Mark;
 use shelf::Shelf;
@@ -15,8 +15,6 @@ impl<B: Book> RuleList for BookRules<'_, B> {
     ghost listed = { λ l. book_list (B.Book.meaning l.0.now) };
 
     ghost within = { λ l. book_within (B.Book.meaning l.0.now) (B.Book.sound l.0.now) };
-
-    ghost few = { λ _. as_many };
 
     fn count(&self) -> usize {
         self.0.rules()
@@ -31,6 +29,10 @@ impl<B: Book> RuleList for BookRules<'_, B> {
     }
 }
 
+impl<B: Book> FewParts for BookRules<'_, B> {
+    ghost few = { λ _. as_many };
+}
+
 // A shelf's lessons, by their places.
 #[derive(Clone, Copy)]
 pub struct ShelfRules<'a, S>(pub &'a S);
@@ -39,8 +41,6 @@ impl<S: Shelf> RuleList for ShelfRules<'_, S> {
     ghost listed = { λ l. shelf_list (S.Shelf.meaning l.0.now) };
 
     ghost within = { λ l. shelf_within (S.Shelf.meaning l.0.now) (S.Shelf.sound l.0.now) };
-
-    ghost few = { λ _. as_many };
 
     fn count(&self) -> usize {
         self.0.places()
@@ -53,4 +53,8 @@ impl<S: Shelf> RuleList for ShelfRules<'_, S> {
     fn mark(&self, rule: usize, place: usize) -> Option<Mark> {
         self.0.mark(rule, place)
     }
+}
+
+impl<S: Shelf> FewParts for ShelfRules<'_, S> {
+    ghost few = { λ _. as_many };
 }

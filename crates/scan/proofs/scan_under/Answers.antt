@@ -4,4 +4,4 @@ use Rattle.trail.specs.Stacks.{trail_of}
 use Rattle.scan.proofs.scan_under.Goals as goal
 
 pub scan-requires : goal.scan-requires
-scan-requires g c = omega (arith, ap length c.row.ensures, length_row 120 (trail_of c.args.trail.now), g.R.RuleList.few c.args.list.now)
+scan-requires g c = omega (arith, ap length c.row.ensures, length_row 120 (trail_of c.args.trail.now), g.met.R.FewParts.few c.args.list.now)

@@ -2,7 +2,7 @@
 ghost use Rattle.std.specs.Prelude.{◌≡◌, ◌<◌, []};
 ghost use Rattle.picker.specs.Meaning.{picked as picked_by};
 ghost use Rattle.search.specs.declared.Told.TheVariants.{Spent};
-ghost use Rattle.search.specs.Machine.{act, asked, bottom, pushed, step as step_of_lem, stop, turn_on, turned};
+ghost use Rattle.search.specs.Machine.{act, asked, bottom, pushed, step as step_of, stop, turn_on, turned};
 ghost use Rattle.search.specs.Trail.{row as row_of};
 ghost use Rattle.session.specs.Moving.{Open};
 ghost use Rattle.trail.specs.Stacks.{trail_of};
@@ -23,7 +23,7 @@ impl<B: Book, P: Picker, S: Shelf> Session<B, P, S> {
     // Does one step, where no verdict stands.
     pub(crate) fn step(&mut self)
         requires { (self.old.told ≡ Spent) × (self.old.steps < 50000000) }
-        ensures after { machine_of B.Book.meaning S.Shelf.meaning self.new ≡ step_of_lem (bench_of B.Book.meaning P.Picker.meaning self.old) (machine_of B.Book.meaning S.Shelf.meaning self.old) }
+        ensures after { machine_of B.Book.meaning S.Shelf.meaning self.new ≡ step_of (bench_of B.Book.meaning P.Picker.meaning self.old) (machine_of B.Book.meaning S.Shelf.meaning self.old) }
         ensures kept { Kept self.old self.new }
     {
         match self.look() {
