@@ -3,10 +3,15 @@ use Rattle.std.specs.Prelude.{◌≡◌, ℕ, zero, suc, ◌+◌, ◌*◌, ◌<�
 use Rattle.std.proofs.Common.{ap, arith, length-append}
 use Rattle.std.specs.List.{range_with_len, AllByRecursion}
 use Rattle.std.proofs.lemmas.List.FromFn.{length-map-range_with_len}
+use Rattle.std.proofs.lemmas.List.Sums.{sum_by-cons}
 use Rattle.std.proofs.lemmas.Bool.{and_parts, and_from, or_from, not_from_false, leb-true, le-leb, ne_eqb}
 use Rattle.book.specs.Meaning.{Sound, names, sound_rule, sound_rules}
 use Rattle.book.specs.Joining.{sound_append}
-use Rattle.bays.specs.Meaning.{some_in, not_both, pairs, bay_rules, bays_rules, total, bay_book, pair_count, rule_count, fit_widths, fit_bays}
+use Rattle.bays.specs.Meaning.{some_in, not_both, pairs, bay_rules, bays_rules, total, bay_book, pair_count, bay_count, rule_count, fit_widths, fit_bays}
+
+-- a bay before the others
+total_more : (w : ℕ) (ws : List ℕ) → total (w ∷ ws) ≡ w + total ws
+total_more w ws = sum_by-cons (λ x. x) w ws
 
 pub length_pairs : (a w : ℕ) → length (pairs a w) ≡ pair_count w
 length_pairs a zero = refl
@@ -14,7 +19,7 @@ length_pairs a (suc w) = simp (length-append, length-map-range_with_len) (ap (λ
 
 pub length_bays : (a : ℕ) (ws : List ℕ) → length (bays_rules a ws) ≡ rule_count ws
 length_bays a [] = refl
-length_bays a (w ∷ ws) = omega (arith, length-append (pairs a w) (bays_rules (a + w) ws), length_pairs a w, length_bays (a + w) ws)
+length_bays a (w ∷ ws) = omega (arith, length-append (pairs a w) (bays_rules (a + w) ws), length_pairs a w, length_bays (a + w) ws, sum_by-cons bay_count w ws)
 
 pub pairs_few : (w : ℕ) → w ≤ 20 → pair_count w ≤ 20 * w
 pairs_few zero h = omega arith
@@ -41,11 +46,11 @@ fit_from ws h =
 
 pub rules_few : (ws : List ℕ) → AllByRecursion (λ w. (1 ≤ w) × (w ≤ 20)) ws → rule_count ws ≤ 21 * total ws
 rules_few [] a = omega arith
-rules_few (w ∷ ws) a = omega (arith, pairs_few w a.0.1, rules_few ws a.1, a.0.0)
+rules_few (w ∷ ws) a = omega (arith, pairs_few w a.0.1, rules_few ws a.1, a.0.0, sum_by-cons bay_count w ws, total_more w ws)
 
 parts_some : (ws : List ℕ) → 1 ≤ length ws → AllByRecursion (λ w. (1 ≤ w) × (w ≤ 20)) ws → 1 ≤ total ws
 parts_some [] h a = absurd (omega arith)
-parts_some (w ∷ ws) h a = omega (arith, a.0.0)
+parts_some (w ∷ ws) h a = omega (arith, a.0.0, total_more w ws)
 
 -- a part below a bay is not named by it
 not_named : (p a w : ℕ) → p < a → names (some_in a w) p ≡ false
@@ -77,6 +82,7 @@ pairs_sound n a (suc w) low high =
 bays_sound : (n a : ℕ) (ws : List ℕ) → 1 ≤ a → a + total ws ≤ suc n → sound_rules n (bays_rules a ws) ≡ true
 bays_sound n a [] low high = refl
 bays_sound n a (w ∷ ws) low high =
+    let t = total_more w ws in
     sound_append n (bay_rules a w) (bays_rules (a + w) ws)
     (and_from _ _ (in_sound n a w low (omega arith)) (pairs_sound n a w low (omega arith)))
     (bays_sound n (a + w) ws (omega arith) (omega arith))

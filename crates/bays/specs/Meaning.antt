@@ -1,6 +1,6 @@
 -- A book of bays: in each bay exactly one part is in (an at-least-one clause, and an at-most-one clause for each pair).
-use Rattle.std.specs.Prelude.{ℕ, zero, suc, ◌+◌, Bool, true, ◌&&◌, List, [], ◌∷◌, ◌++◌, map, length, nat_le}
-use Rattle.std.specs.List.{range_with_len}
+use Rattle.std.specs.Prelude.{ℕ, zero, suc, ◌+◌, Bool, ◌&&◌, List, [], ◌∷◌, ◌++◌, map, length, nat_le, sum, sum_by}
+use Rattle.std.specs.List.{list_all, range_with_len}
 use Rattle.parts.specs.declared.Mark.{Mark}
 use Rattle.parts.specs.declared.Side.TheVariants.{In, Out}
 use Rattle.book.specs.Meaning.{Rule, Rules}
@@ -32,9 +32,9 @@ abbrev pub bays_rules : ℕ → List ℕ → List Rule
 bays_rules from [] = []
 bays_rules from (w ∷ ws) = bay_rules from w ++ bays_rules (from + w) ws
 
+-- how many parts the bays have together
 abbrev pub total : List ℕ → ℕ
-total [] = 0
-total (w ∷ ws) = w + total ws
+total ws = sum ws
 
 abbrev pub bay_book : List ℕ → Rules
 bay_book ws = record { n = total ws; rules = bays_rules 1 ws }
@@ -48,13 +48,11 @@ abbrev pub bay_count : ℕ → ℕ
 bay_count w = suc (pair_count w)
 
 abbrev pub rule_count : List ℕ → ℕ
-rule_count [] = 0
-rule_count (w ∷ ws) = bay_count w + rule_count ws
+rule_count ws = sum_by bay_count ws
 
 -- each width is from 1 to 20
 abbrev pub fit_widths : List ℕ → Bool
-fit_widths [] = true
-fit_widths (w ∷ ws) = (nat_le 1 w && nat_le w 20) && fit_widths ws
+fit_widths ws = list_all (λ w. nat_le 1 w && nat_le w 20) ws
 
 -- whether the widths make a book: some bays, of 1 to 20 parts each, and of at most 120 together
 abbrev pub fit_bays : List ℕ → Bool

@@ -1,15 +1,26 @@
--- Where a rule stands: its bay, and its number within the bay.
-use Rattle.std.specs.Prelude.{◌≡◌, ℕ, ◌+◌, ◌<◌, ◌≤◌, List, None, Option, MatchOption}
+-- Where a rule stands: its bay, and which of the bay's rules it is.
+use Rattle.std.specs.Prelude.{◌≡◌, ℕ, ◌<◌, List, Some, None, Option, MatchOption}
 use Rattle.std.specs.List.{slice_get}
 use Rattle.parts.specs.Lists.{at_place}
-use Rattle.bays.specs.Meaning.{bay_rules, bays_rules, bay_count}
-use Rattle.bays.specs.declared.Spot.{Spot}
+use Rattle.book.specs.Meaning.{Rule}
+use Rattle.bays.specs.Meaning.{some_in, pairs, bays_rules, pair_count}
+use Rattle.bays.specs.declared.spots.Spot.{Spot}
+use Rattle.bays.specs.declared.spots.Spot.TheVariants.{SomeIn, NotBoth}
 
--- the rule, counted from 1, is this one of a bay's, counted from 0
+-- the rule that stands at a spot
+abbrev pub rule_at : Spot → Option Rule
+rule_at (SomeIn bay) = Some (some_in bay.from bay.width)
+rule_at (NotBoth bay pair) = slice_get (pairs bay.from bay.width) pair
+
+-- a spot's pair is one of its bay's
+abbrev pub Inside : Spot → Type 0
+Inside (SomeIn bay) = Unit {0}
+Inside (NotBoth bay pair) = pair < pair_count bay.width
+
+-- the rule, counted from 1, stands at this spot
 pub record Spots (ws : List ℕ) (rule : ℕ) (s : Spot) : Type 0 where
-  pub within : s.from + s.width ≤ 121
-  pub inside : s.number < bay_count s.width
-  pub is : at_place (bays_rules 1 ws) rule ≡ slice_get (bay_rules s.from s.width) s.number
+  pub inside : Inside s
+  pub is : at_place (bays_rules 1 ws) rule ≡ rule_at s
 
 -- a rule's spot, or nothing where there is no such rule
 abbrev pub Spotted : List ℕ → ℕ → Option Spot → Type 0

@@ -67,6 +67,6 @@ fn bays_refuse(rt: HostRuntime) -> Result<(), Fail> {
         return Err(Fail::new("3 parts and 4"));
     };
     assert_eq!(rt; unjoined.refusal, Refusal::JoinPartsDiffer);
-    assert_eq!(rt; unjoined.second.mark(7, 1), put_out(3));
+    assert_eq!(rt; unjoined.back.1.mark(7, 1), put_out(3));
     Ok(())
 }

@@ -1,3 +1,2 @@
 mod Spans
-pub mod Joins
 pub mod TableLaws

@@ -1,14 +1,16 @@
 -- Where a rule's marks begin and end, by the ends of the rule before and of its own.
-use Rattle.std.proofs.Common.{◌≡◌, ℕ, zero, suc, ◌+◌, ◌-◌, ◌<◌, ◌≤◌, min, true, List, [], ◌∷◌, map, length, get_or, take, drop, Some, None, vec_items, sym, refl, ap, ◌∙◌, arith, length-drop, length-take}
-use Rattle.std.specs.Option.{option_map}
-use Rattle.std.proofs.lemmas.List.{at_drop_more, get_or_read, get_or-take, get_or-drop, length-map}
-use Rattle.std.proofs.lemmas.Option.{slice_get-get_or, slice_get_past}
-use Rattle.std.proofs.lemmas.Bool.{and_parts, leb-true}
+use Rattle.std.proofs.Common.{◌≡◌, ℕ, zero, suc, ◌+◌, ◌-◌, ◌<◌, ◌≤◌, min, true, false, ◌&&◌, nat_le, List, [], ◌∷◌, map, length, get_or, take, drop, ℤ, Some, None, vec_items, sym, refl, ap, ◌∙◌, arith, length-take}
+use Rattle.std.specs.Option.{option_map, unwrap_or}
+use Rattle.std.specs.List.{slice_get}
+use Rattle.std.specs.List.Sorted.{IsNonDecreasing}
+use Rattle.std.proofs.lemmas.List.{at_drop_more, get_or-take, length-map, take-map, drop-map}
+use Rattle.std.proofs.lemmas.Option.{slice_get-map, slice_get_past, unwrap_or-slice_get}
+use Rattle.std.proofs.lemmas.Bool.{and_parts, and_left, and_right, leb-true, le-leb, lt-leb}
 use Rattle.parts.specs.declared.Mark.{Mark}
 use Rattle.parts.specs.Lists.{at_place, then_at}
-use Rattle.book.specs.Meaning.{Rule, marks_of, mark_of}
-use Rattle.book.specs.Tables.{mark_from, cut, rising}
-use Rattle.book.specs.Laying.{Laid, Spans, laid_from}
+use Rattle.book.specs.Meaning.{Rule, mark_of, sound_rule, sound_rules}
+use Rattle.book.specs.Tables.{mark_from, cut, laid_rules, rising}
+use Rattle.book.specs.Laying.{Laid, laid_from, length_cut}
 use Rattle.book.specs.declared.text.TextBook.{TextBook}
 
 -- an end, the one before, and those after
@@ -33,8 +35,46 @@ rising_step limit from e es h =
 pub rising_more : (limit from : ℕ) (es : List ℕ) (i : ℕ) → i < length es → rising limit from (drop i es) ≡ true → Step limit from (get_or es i 0) (drop (i + 1) es)
 rising_more limit from es i l h = rising_step limit from (get_or es i 0) (drop (i + 1) es) (sym (at_drop_more (rising limit from) es i 0 l) ∙ h)
 
+-- the rules that the ends cut from one on are its rule and those after it
+pub rules_drop : (n from : ℕ) (numbers : List ℤ) (es : List ℕ) (i : ℕ) → i < length es → sound_rules n (cut from (drop i es) (map mark_from numbers)) ≡ (sound_rule n (map mark_from (take (get_or es i 0 - from) (drop from numbers))) && sound_rules n (cut (get_or es i 0) (drop (i + 1) es) (map mark_from numbers)))
+rules_drop n from numbers es i l = at_drop_more (λ xs. sound_rules n (cut from xs (map mark_from numbers))) es i 0 l ∙ simp (drop-map, take-map)
+
+-- ends that do not fall rise to the limit exactly if the last is within it
+rises_if_last : (limit from : ℕ) (es : List ℕ) → ((i j : ℕ) → i ≤ j → j < suc (length es) → get_or (from ∷ es) i 0 ≤ get_or (from ∷ es) j 0) → rising limit from es ≡ nat_le (get_or (from ∷ es) (length es) 0) limit
+rises_if_last limit from [] s = refl
+rises_if_last limit from (e ∷ es) s =
+    ap (λ b. b && rising limit e es) (le-leb from e (s 0 1 (omega arith) (omega arith)))
+    ∙ rises_if_last limit e es (λ i j h l. s (suc i) (suc j) (omega arith) (omega arith))
+
+from_zero : (es : List ℕ) → IsNonDecreasing es → (i j : ℕ) → i ≤ j → j < suc (length es) → get_or (0 ∷ es) i 0 ≤ get_or (0 ∷ es) j 0
+from_zero es s zero j h l = omega arith
+from_zero es s (suc i) zero h l = absurd (omega arith)
+from_zero es s (suc i) (suc j) h l = s i j 0 (omega arith) (omega arith)
+
+last_or_zero : (es : List ℕ) → get_or (0 ∷ es) (length es) 0 ≡ unwrap_or (slice_get es (length es - 1)) 0
+last_or_zero [] = refl
+last_or_zero (e ∷ es) = let k : length (e ∷ es) - 1 ≡ length es = omega arith in rw k (sym (unwrap_or-slice_get (e ∷ es) (length es) 0))
+
+pub sorted_rises : (limit : ℕ) (es : List ℕ) → IsNonDecreasing es → rising limit 0 es ≡ nat_le (unwrap_or (slice_get es (length es - 1)) 0) limit
+sorted_rises limit es s = rises_if_last limit 0 es (from_zero es s) ∙ ap (λ e. nat_le e limit) (last_or_zero es)
+
+-- ends that fall somewhere do not rise
+pub falls : (limit from : ℕ) (es : List ℕ) (k : ℕ) → k + 1 < length es → get_or es (k + 1) 0 < get_or es k 0 → rising limit from es ≡ false
+falls limit from [] k l h = absurd (omega arith)
+falls limit from (e ∷ []) k l h = absurd (omega arith)
+falls limit from (e ∷ d ∷ es) zero l h = and_right _ _ (and_left _ _ (lt-leb e d h))
+falls limit from (e ∷ d ∷ es) (suc k) l h =
+    let n : suc k + 1 ≡ suc (k + 1) = omega arith in
+    and_right _ _ (falls limit e (d ∷ es) k (omega arith) (rw n at h))
+
+-- the marks of a rule, counted from 1, begin and end at these places of all marks
+record Spans (rules : List Rule) (ms : List Mark) (rule from to : ℕ) : Type 0 where
+  pub rises : from ≤ to
+  pub within : to ≤ length ms
+  pub cuts : at_place rules rule ≡ Some (take (to - from) (drop from ms))
+
 -- the rule at k, counted from 0
-spans_at : (limit from : ℕ) (es : List ℕ) (ms : List Mark) (k : ℕ) → limit ≤ length ms → rising limit from es ≡ true → k < length es → Spans (cut from es ms) ms (suc k) (get_or (from ∷ es) k 0, get_or es k 0)
+spans_at : (limit from : ℕ) (es : List ℕ) (ms : List Mark) (k : ℕ) → limit ≤ length ms → rising limit from es ≡ true → k < length es → Spans (cut from es ms) ms (suc k) (get_or (from ∷ es) k 0) (get_or es k 0)
 spans_at limit from [] ms k l h i = absurd (omega arith)
 spans_at limit from (e ∷ es) ms zero l h i =
     let s = rising_step limit from e es h in
@@ -44,67 +84,47 @@ spans_at limit from (e ∷ es) ms (suc k) l h i =
     record { rises = t.rises; within = t.within; cuts = t.cuts }
 
 -- what a book keeps
-pub kept : (b : TextBook) → Laid b.n b.rules (vec_items b.marks) (vec_items b.ends)
+pub kept : (b : TextBook) → Laid b.n b.rules (vec_items b.tables.marks) (vec_items b.tables.ends)
 kept b = laid_from _ _ _ _ b.laid
 
--- an end that was read is one of those that count
-end_at : (b : TextBook) (k x : ℕ) → k < b.rules → x ≡ get_or (vec_items b.ends) k x → x ≡ get_or (take b.rules (vec_items b.ends)) k 0
-end_at b k x l e =
-    let h : k < length (vec_items b.ends) = omega (arith, (kept b).rules_ended) in
-    get_or_read _ k x h e 0 ∙ sym (get_or-take b.rules (vec_items b.ends) k 0 l)
+-- the ends that count, after 0
+used_end : (m k : ℕ) (es : List ℕ) → k ≤ m → get_or (0 ∷ take m es) k 0 ≡ get_or (0 ∷ es) k 0
+used_end m k es l = get_or-take (suc m) (0 ∷ es) k 0 (omega arith)
 
--- a rule's span, by the ends that were read
-module _ (b : TextBook) where
-  abbrev marks_in : List Mark
-  marks_in = map mark_from (vec_items b.marks)
+-- a rule of a laid book is these marks of the table, which begin and end where the table of ends says
+pub record Cut (b : TextBook) (rule from to : ℕ) : Type 0 where
+  pub rises : from ≤ to
+  pub within : to ≤ length (vec_items b.tables.marks)
+  pub cuts : at_place (laid_rules b.n b.rules (vec_items b.tables.marks) (vec_items b.tables.ends)).rules rule ≡ Some (map mark_from (take (to - from) (drop from (vec_items b.tables.marks))))
 
-  abbrev ends_in : List ℕ
-  ends_in = take b.rules (vec_items b.ends)
+pub cut_at : (b : TextBook) (rule : ℕ) → (rule ≡ 0 → ⊥) → rule ≤ b.rules → Cut b rule (get_or (0 ∷ vec_items b.tables.ends) (rule - 1) 0) (get_or (0 ∷ vec_items b.tables.ends) rule 0)
+cut_at b zero h l = absurd (h refl)
+cut_at b (suc k) h l =
+    let marks = vec_items b.tables.marks in
+    let ends = vec_items b.tables.ends in
+    let e : suc k - 1 ≡ k = omega arith in
+    let r = (kept b).rises in
+    let n = (kept b).rules_ended in
+    let s = spans_at (min 16000 (length marks)) 0 (take b.rules ends) (map mark_from marks) k (simp length-map (omega arith)) r (simp length-take (omega arith)) in
+    let within = simp length-map at s.within in
+    let f = used_end b.rules k ends (omega arith) in
+    let t = used_end b.rules (suc k) ends l in
+    rw (e, ← f, ← t) (record { rises = s.rises; within = within; cuts = s.cuts ∙ ap Some (simp (drop-map, take-map)) })
 
-  span_at : (k : ℕ) → k < b.rules → Spans (cut 0 ends_in marks_in) marks_in (suc k) (get_or (0 ∷ ends_in) k 0, get_or ends_in k 0)
-  span_at k l = spans_at (min 16000 (length (vec_items b.marks))) 0 ends_in marks_in k (simp length-map (omega arith)) (kept b).rises (simp length-take (omega (arith, (kept b).rules_ended)))
+pub rules_counted : (b : TextBook) → length (laid_rules b.n b.rules (vec_items b.tables.marks) (vec_items b.tables.ends)).rules ≡ b.rules
+rules_counted b = let n = (kept b).rules_ended in simp (length_cut, length-take) (omega arith)
 
-  pub span_first : (rule to : ℕ) → rule ≡ 1 → rule ≤ b.rules → to ≡ get_or (vec_items b.ends) (rule - 1) to → Spans (cut 0 ends_in marks_in) marks_in rule (0, to)
-  span_first zero to m l e = absurd (omega arith)
-  span_first (suc zero) to m l e = rw (end_at b 0 to l e) (span_at 0 l)
-  span_first (suc (suc k)) to m l e = absurd (omega arith)
+-- a number that no rule of the book has
+pub no_rule : (b : TextBook) (rule : ℕ) → (1 ≤ rule → b.rules < rule) → at_place (laid_rules b.n b.rules (vec_items b.tables.marks) (vec_items b.tables.ends)).rules rule ≡ None
+no_rule b zero h = refl
+no_rule b (suc k) h =
+    let l = h (omega arith) in
+    let n = (kept b).rules_ended in
+    slice_get_past _ k (simp (length_cut, length-take) (omega arith))
 
-  pub span_later : (rule from to : ℕ) → 2 ≤ rule → rule ≤ b.rules → from ≡ get_or (vec_items b.ends) (rule - 2) from → to ≡ get_or (vec_items b.ends) (rule - 1) to → Spans (cut 0 ends_in marks_in) marks_in rule (from, to)
-  span_later zero from to m l e f = absurd (omega arith)
-  span_later (suc zero) from to m l e f = absurd (omega arith)
-  span_later (suc (suc k)) from to m l e f =
-      let i : suc (suc k) - 2 ≡ k = omega arith in
-      let j : suc (suc k) - 1 ≡ suc k = omega arith in
-      rw (end_at b k from (omega arith) (rw i at e), end_at b (suc k) to (omega arith) (rw j at f)) (span_at (suc k) (omega arith))
-
-module _ {X : Type 0} where
-  pub place_past : (xs : List X) (k : ℕ) → (0 < k → length xs < k) → at_place xs k ≡ None
-  place_past xs zero h = refl
-  place_past xs (suc k) h = slice_get_past xs k (omega (arith, h (omega arith)))
-
-  place_in : (xs : List X) (k : ℕ) (d : X) → 1 ≤ k → k ≤ length xs → at_place xs k ≡ Some (get_or xs (k - 1) d)
-  place_in xs zero d h l = absurd (omega arith)
-  place_in xs (suc k) d h l = let e : suc k - 1 ≡ k = omega arith in rw e (slice_get-get_or xs k d (omega arith))
-
--- what a rule's span tells of its marks
-module _ {rules : List Rule} {ms : List Mark} {rule : ℕ} {span : ℕ × ℕ} (s : Spans rules ms rule span) where
-  abbrev stretch : Rule
-  stretch = take (span.1 - span.0) (drop span.0 ms)
-
-  length_stretch : length stretch ≡ span.1 - span.0
-  length_stretch = let w = s.within in simp (length-take, length-drop) (omega arith)
-
-  pub spans_marks : marks_of rules rule ≡ Some (span.1 - span.0)
-  spans_marks = ap (option_map length) s.cuts ∙ ap Some length_stretch
-
-  at_stretch : (place : ℕ) → mark_of rules rule place ≡ at_place stretch place
-  at_stretch place = ap (λ o. then_at o (λ r. at_place r place)) s.cuts
-
-  pub spans_past : (place : ℕ) → (0 < place → span.1 - span.0 < place) → mark_of rules rule place ≡ None
-  spans_past place h = at_stretch place ∙ place_past stretch place (rw length_stretch h)
-
-  pub spans_in : (place : ℕ) (d : Mark) → 1 ≤ place → place ≤ span.1 - span.0 → mark_of rules rule place ≡ Some (get_or ms (span.0 + place - 1) d)
-  spans_in place d p q =
-      let n = length_stretch in
-      let e : span.0 + (place - 1) ≡ span.0 + place - 1 = omega arith in
-      at_stretch place ∙ place_in stretch place d p (omega arith) ∙ ap Some (get_or-take (span.1 - span.0) (drop span.0 ms) (place - 1) d (omega arith) ∙ get_or-drop span.0 ms (place - 1) d ∙ ap (λ j. get_or ms j d) e)
+-- a mark of a rule by its place
+pub mark_at : (rules : List Rule) (rule place : ℕ) (numbers : List ℤ) → at_place rules rule ≡ Some (map mark_from numbers) → (place ≡ 0 → ⊥) → mark_of rules rule place ≡ option_map mark_from (slice_get numbers (place - 1))
+mark_at rules rule zero numbers h p = absurd (p refl)
+mark_at rules rule (suc k) numbers h p =
+    let e : suc k - 1 ≡ k = omega arith in
+    rw e (ap (λ o. then_at o (λ r. at_place r (suc k))) h ∙ slice_get-map mark_from numbers k)

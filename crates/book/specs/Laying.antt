@@ -1,11 +1,10 @@
--- What the tables of a laid book keep, why the book is sound, and where a rule's marks stand.
-use Rattle.std.specs.Prelude.{◌≡◌, ℕ, suc, ◌-◌, ◌≤◌, min, true, List, [], ◌∷◌, map, length, take, drop, ℤ, Some, None, Option, MatchOption, refl}
+-- What the tables of a laid book keep, and why the book is sound.
+use Rattle.std.specs.Prelude.{◌≡◌, ℕ, suc, ◌≤◌, min, true, List, [], ◌∷◌, length, take, ℤ, refl}
 use Rattle.std.proofs.Common.{ap, arith, length-take}
 use Rattle.std.proofs.lemmas.Bool.{and_parts, leb-true}
 use Rattle.parts.specs.declared.Mark.{Mark}
-use Rattle.parts.specs.Lists.{at_place}
-use Rattle.book.specs.Meaning.{Rule, Sound, sound_rules}
-use Rattle.book.specs.Tables.{mark_from, cut, rising, lays, laid_rules}
+use Rattle.book.specs.Meaning.{Sound, sound_rules}
+use Rattle.book.specs.Tables.{cut, rising, lays, laid_rules}
 
 -- what `lays` tells, part by part
 pub record Laid (n m : ℕ) (marks : List ℤ) (ends : List ℕ) : Type 0 where
@@ -40,16 +39,3 @@ pub laid_sound : (n m : ℕ) (marks : List ℤ) (ends : List ℕ) → lays n m m
 laid_sound n m marks ends h =
     let l = laid_from n m marks ends h in
     record { some = l.some; few = l.few; rules_few = simp (length_cut, length-take) (omega arith); rules_sound = l.rules_sound }
-
--- the marks of a rule, counted from 1, begin and end at these places of all marks
-pub record Spans (rules : List Rule) (ms : List Mark) (rule : ℕ) (span : ℕ × ℕ) : Type 0 where
-  pub rises : span.0 ≤ span.1
-  pub within : span.1 ≤ length ms
-  pub cuts : at_place rules rule ≡ Some (take (span.1 - span.0) (drop span.0 ms))
-
--- the span of a rule that m ends cut, or nothing where there is no such rule
-abbrev pub Spanned : ℕ → List ℤ → List ℕ → ℕ → Option (ℕ × ℕ) → Type 0
-Spanned m marks ends rule r =
-    let ms = map mark_from marks in
-    let rules = cut 0 (take m ends) ms in
-    MatchOption r (at_place rules rule ≡ None) (Spans rules ms rule)

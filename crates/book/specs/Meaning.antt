@@ -1,7 +1,8 @@
 -- What a book means: n parts, and its rules as lists of marks (a formula in conjunctive normal form, its clauses as lists of literals).
-use Rattle.std.specs.Prelude.{◌≡◌, ℕ, ◌+◌, ◌≤◌, Bool, true, false, not, ◌&&◌, ◌||◌, List, [], ◌∷◌, length, Option, ◌==◌, nat_le}
+use Rattle.std.specs.Prelude.{◌≡◌, ℕ, ◌+◌, ◌≤◌, Bool, true, not, ◌&&◌, List, [], ◌∷◌, length, Option, ◌==◌, nat_le}
 use Rattle.parts.specs.Lists.{at_place, then_at}
 use Rattle.std.specs.Option.{option_map}
+use Rattle.std.specs.List.{list_any, list_all}
 use Rattle.parts.specs.declared.Mark.{Mark}
 
 -- a rule (a clause) is the list of its marks
@@ -26,8 +27,7 @@ count_marks (r ∷ rs) = length r + count_marks rs
 
 -- whether a rule names a part
 abbrev pub names : Rule → ℕ → Bool
-names [] p = false
-names (m ∷ r) p = m.part == p || names r p
+names r p = list_any (λ m. m.part == p) r
 
 -- each part of a rule is from 1 to n, and none is named twice
 abbrev pub sound_rule : ℕ → Rule → Bool
@@ -35,8 +35,7 @@ sound_rule n [] = true
 sound_rule n (m ∷ r) = (nat_le 1 m.part && nat_le m.part n) && (not (names r m.part) && sound_rule n r)
 
 abbrev pub sound_rules : ℕ → List Rule → Bool
-sound_rules n [] = true
-sound_rules n (r ∷ rs) = sound_rule n r && sound_rules n rs
+sound_rules n rs = list_all (sound_rule n) rs
 
 -- what every book's meaning keeps
 pub record Sound (b : Rules) : Type 0 where

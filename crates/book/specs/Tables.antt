@@ -1,21 +1,8 @@
 -- A book by its two tables: marks as signed numbers, and for each rule where its marks end.
-use Rattle.std.specs.Prelude.{ℕ, suc, ◌+◌, ◌-◌, min, Bool, ◌&&◌, List, [], ◌∷◌, ◌++◌, map, length, take, drop, ℤ, pos, negsuc, neg_ℤ, nat_le}
+use Rattle.std.specs.Prelude.{ℕ, ◌+◌, ◌-◌, min, Bool, ◌&&◌, List, [], ◌∷◌, map, length, take, drop, flat_map, ℤ, nat_le}
 use Rattle.parts.specs.declared.Mark.{Mark}
-use Rattle.parts.specs.declared.Side.{Side}
-use Rattle.parts.specs.declared.Side.TheVariants.{In, Out}
+pub use Rattle.parts.specs.Marks.{mark_from, on_side, number_from}
 use Rattle.book.specs.Meaning.{Rule, Rules, sound_rules}
-
--- 7 is part 7 in, -7 is part 7 out
-abbrev pub mark_from : ℤ → Mark
-mark_from (pos p) = record { part = p; side = In }
-mark_from (negsuc p) = record { part = suc p; side = Out }
-
-abbrev pub on_side : Side → ℕ → ℤ
-on_side In p = pos p
-on_side Out p = neg_ℤ (pos p)
-
-abbrev pub number_from : Mark → ℤ
-number_from m = on_side m.side m.part
 
 -- the rules whose marks end at these places; the first begins at `from`
 abbrev pub cut : ℕ → List ℕ → List Mark → List Rule
@@ -39,10 +26,9 @@ lays n m marks ends =
     ((nat_le 1 n && nat_le n 120) && (nat_le m 4000 && nat_le m (length ends)))
     && (rising (min 16000 (length marks)) 0 (take m ends) && sound_rules n (laid_rules n m marks ends).rules)
 
--- the tables that a list of rules fills
+-- the tables that a list of rules fills: its marks one after another, and where each rule's marks end
 abbrev pub mark_table : List Rule → List ℤ
-mark_table [] = []
-mark_table (r ∷ rs) = map number_from r ++ mark_table rs
+mark_table rs = flat_map (map number_from) rs
 
 abbrev pub end_table : ℕ → List Rule → List ℕ
 end_table from [] = []

@@ -1,103 +1,77 @@
 // Two books joined: the first's rules before the second's.
 ghost use Rattle.std.specs.Prelude.{◌≡◌, true, false, MatchResult};
-ghost use Rattle.book.specs.Joining.{joinable, why_not, both_rules, joined_rules, joined_sound};
+ghost use Rattle.book.specs.Joining.{joinable, why_not, both_rules, joined_sound};
 
 use crate::Book;
 use parts::Mark;
 use parts::limits::MOST_RULES;
-use parts::refusals::Refusal;
-
-// Why two books were not joined, and both as they were.
-#[derive(Drop)]
-pub struct Unjoined<F, S> {
-    pub refusal: Refusal,
-    pub first: F,
-    pub second: S,
-}
+use parts::refusals::{Refusal, Refused};
 
 // Two books as one (a conjunction); either may be a joined one.
 #[derive(Drop)]
-pub struct Joined<F, S> {
+pub struct Joined<F: Book, S: Book> {
     first: F,
     second: S,
+    ghost fit: { joinable (F.meaning first) (S.meaning second) ≡ true },
 }
 
 // Joins two books of as many parts, with at most 20,000 rules together.
-pub fn join<F: Book, S: Book>(first: F, second: S) -> Result<Joined<F, S>, Unjoined<F, S>>
-    ensures { MatchResult result (λ j. (joinable (F.Book.meaning first) (S.Book.meaning second) ≡ true) × (j ≡ record { first = first; second = second }) × (joined_rules (F.Book.meaning j.first) (S.Book.meaning j.second) ≡ both_rules (F.Book.meaning first) (S.Book.meaning second))) (λ e. (joinable (F.Book.meaning first) (S.Book.meaning second) ≡ false) × (e ≡ record { refusal = why_not (F.Book.meaning first) (S.Book.meaning second); first = first; second = second })) }
+pub fn join<F: Book, S: Book>(first: F, second: S) -> Result<Joined<F, S>, Refused<(F, S)>>
+    ensures { MatchResult result (λ j. (joinable (F.meaning first) (S.meaning second) ≡ true) × (j.first ≡ first) × (j.second ≡ second) × (⟦<Joined<F, S> as Book>⟧.meaning j ≡ both_rules (F.meaning first) (S.meaning second))) (λ e. (joinable (F.meaning first) (S.meaning second) ≡ false) × (e ≡ record { refusal = why_not (F.meaning first) (S.meaning second); back = (first, second) })) }
 {
     if first.n() != second.n() {
-        return Err(Unjoined {
+        return Err(Refused {
             refusal: Refusal::JoinPartsDiffer,
-            first,
-            second,
+            back: (first, second),
         });
     }
-    if !fits(&first, &second) {
-        return Err(Unjoined {
+    if first.rules() + second.rules() > MOST_RULES {
+        return Err(Refused {
             refusal: Refusal::JoinTooManyRules,
-            first,
-            second,
+            back: (first, second),
         });
     }
     Ok(Joined { first, second })
 }
 
-impl<F, S> Joined<F, S> {
+impl<F: Book, S: Book> Joined<F, S> {
     // Both books, as they were joined.
     pub fn into_books(self) -> (F, S)
         ensures { result ≡ (self.first, self.second) }
     {
-        let Joined { first, second } = self;
-        (first, second)
+        (self.first, self.second)
     }
 }
 
 // The rules up to the first's count are the first's, and the others the second's.
 impl<F: Book, S: Book> Book for Joined<F, S> {
-    ghost meaning = { λ j. joined_rules (F.Book.meaning j.first) (S.Book.meaning j.second) };
+    ghost meaning = { λ j. both_rules (F.meaning j.first) (S.meaning j.second) };
 
-    ghost sound = { λ j. joined_sound (F.Book.meaning j.first) (S.Book.meaning j.second) (F.Book.sound j.first) (S.Book.sound j.second) };
+    ghost sound = { λ j. joined_sound (F.meaning j.first) (S.meaning j.second) j.fit (F.sound j.first) (S.sound j.second) };
 
     fn n(&self) -> usize {
         self.first.n()
     }
 
     fn rules(&self) -> usize {
-        let before = self.first.rules();
-        if fits(&self.first, &self.second) {
-            before + self.second.rules()
-        } else {
-            before
-        }
+        self.first.rules() + self.second.rules()
     }
 
     fn marks(&self, rule: usize) -> Option<usize> {
         let before = self.first.rules();
         if rule <= before {
-            return self.first.marks(rule);
+            self.first.marks(rule)
+        } else {
+            self.second.marks(rule - before)
         }
-        if fits(&self.first, &self.second) {
-            return self.second.marks(rule - before);
-        }
-        None
     }
 
     fn mark(&self, rule: usize, place: usize) -> Option<Mark> {
         let before = self.first.rules();
         if rule <= before {
-            return self.first.mark(rule, place);
+            self.first.mark(rule, place)
+        } else {
+            self.second.mark(rule - before, place)
         }
-        if fits(&self.first, &self.second) {
-            return self.second.mark(rule - before, place);
-        }
-        None
     }
-}
-
-// Whether two books may be joined.
-fn fits<F: Book, S: Book>(first: &F, second: &S) -> bool
-    ensures { result ≡ joinable (F.Book.meaning first.now) (S.Book.meaning second.now) }
-{
-    first.n() == second.n() && first.rules() + second.rules() <= MOST_RULES
 }

@@ -1,132 +1,114 @@
 // A book laid over two tables: marks as signed numbers, and where each rule's marks end.
-ghost use Rattle.std.specs.Prelude.{◌≡◌, min, true, false, map, length, MatchResult};
+ghost use Rattle.std.specs.Prelude.{◌≡◌, ◌≤◌, min, true, false, ◌∷◌, map, length, slice_index, MatchResult};
+ghost use Rattle.std.specs.Option.{option_map};
 ghost use Rattle.parts.specs.declared.refusals.Refusal.TheVariants.{NotABook};
+ghost use Rattle.parts.specs.Lists.{at_place};
 ghost use Rattle.book.specs.Meaning.{names, sound_rule, sound_rules};
 ghost use Rattle.book.specs.Tables.{mark_from, cut, rising, lays, laid_rules};
-ghost use Rattle.book.specs.Laying.{Spanned, laid_sound};
+ghost use Rattle.book.specs.Laying.{laid_sound};
 
 use crate::Book;
+use parts::Mark;
 use parts::limits::{MOST_PARTS, MOST_TEXT_MARKS, MOST_TEXT_RULES};
-use parts::refusals::Refusal;
-use parts::{Mark, Side};
+use parts::refusals::{Refusal, Refused};
 
 // The two tables of a book.
+// Stays two tables of numbers: callers fill them and take them back, so their layout is promised.
 #[derive(Drop)]
 pub struct Tables {
     pub marks: Vec<i16>,
     pub ends: Vec<u16>,
 }
 
-// Why no book was laid over the tables, and the tables as they were.
-#[derive(Drop)]
-pub struct Unlaid {
-    pub refusal: Refusal,
-    pub tables: Tables,
-}
-
 // A book laid over two tables that it owns.
 #[derive(Drop)]
 pub struct TextBook {
     n: usize,
+    // Stays a count beside the table of ends: the entries after these are the caller's, and come back as they were.
     rules: usize,
-    marks: Vec<i16>,
-    ends: Vec<u16>,
-    ghost laid: { lays n rules marks.items ends.items ≡ true },
+    tables: Tables,
+    ghost laid: { lays n rules tables.marks.items tables.ends.items ≡ true },
 }
 
 impl TextBook {
     // Lays a book of n parts over the tables, its rules cut by the first ends; what stands after them is never read.
-    pub fn lay(n: usize, rules: usize, tables: Tables) -> Result<TextBook, Unlaid>
-        ensures { MatchResult result (λ b. (lays n rules tables.marks.items tables.ends.items ≡ true) × (b.n ≡ n) × (b.rules ≡ rules) × (b.marks ≡ tables.marks) × (b.ends ≡ tables.ends)) (λ e. (lays n rules tables.marks.items tables.ends.items ≡ false) × (e ≡ record { refusal = NotABook; tables = tables })) }
+    pub fn lay(n: usize, rules: usize, tables: Tables) -> Result<TextBook, Refused<Tables>>
+        ensures { MatchResult result (λ b. (lays n rules tables.marks.items tables.ends.items ≡ true) × (b.n ≡ n) × (b.rules ≡ rules) × (b.tables ≡ tables)) (λ e. (lays n rules tables.marks.items tables.ends.items ≡ false) × (e ≡ record { refusal = NotABook; back = tables })) }
     {
-        if !can_lay(n, rules, &tables.marks, &tables.ends) {
-            return Err(Unlaid {
+        if !can_lay(n, rules, &tables) {
+            return Err(Refused {
                 refusal: Refusal::NotABook,
-                tables,
+                back: tables,
             });
         }
-        let Tables { marks, ends } = tables;
-        Ok(TextBook {
-            n,
-            rules,
-            marks,
-            ends,
-        })
+        Ok(TextBook { n, rules, tables })
     }
 
     // The two tables, as they were laid.
     pub fn into_tables(self) -> Tables
-        ensures { result ≡ record { marks = self.marks; ends = self.ends } }
+        ensures { result ≡ self.tables }
     {
-        let TextBook {
-            n: _,
-            rules: _,
-            marks,
-            ends,
-        } = self;
-        Tables { marks, ends }
+        self.tables
     }
 
-    // Where a rule's marks begin and end in the table.
-    fn span(&self, rule: usize) -> Option<(usize, usize)>
-        ensures { Spanned self.now.rules self.now.marks.items self.now.ends.items rule result }
+    // The marks of a rule, as they stand in the table; nothing where there is no such rule.
+    #[tactic(auto, using(crate::proofs::Spans::cut_at, crate::proofs::Spans::no_rule))]
+    fn numbers(&self, rule: usize) -> Option<&[i16]>
+        ensures { option_map (λ numbers. map mark_from numbers.now) result ≡ at_place (laid_rules self.now.n self.now.rules self.now.tables.marks.items self.now.tables.ends.items).rules rule }
     {
         if rule == 0 || rule > self.rules {
             return None;
         }
-        let to = self.ends[rule - 1] as usize;
-        if rule == 1 {
-            return Some((0, to));
+        Some(&self.tables.marks[self.end_after(rule - 1)..self.end_after(rule)])
+    }
+
+    // Where the marks of the first rules end in the table.
+    fn end_after(&self, rules: usize) -> usize
+        requires { rules ≤ self.now.rules }
+        ensures { result ≡ slice_index (0 ∷ self.now.tables.ends.items) rules }
+    {
+        if rules == 0 {
+            0
+        } else {
+            usize::from(self.tables.ends[rules - 1])
         }
-        Some((self.ends[rule - 2] as usize, to))
     }
 }
 
 // The book's rules are cut from the marks by the ends; each answer is one look-up.
 impl Book for TextBook {
-    ghost meaning = { λ b. laid_rules b.n b.rules b.marks.items b.ends.items };
+    ghost meaning = { λ b. laid_rules b.n b.rules b.tables.marks.items b.tables.ends.items };
 
-    ghost sound = { λ b. laid_sound b.n b.rules b.marks.items b.ends.items b.laid };
+    ghost sound = { λ b. laid_sound b.n b.rules b.tables.marks.items b.tables.ends.items b.laid };
 
     fn n(&self) -> usize {
         self.n
     }
 
+    #[tactic(auto, using(crate::proofs::Spans::rules_counted))]
     fn rules(&self) -> usize {
         self.rules
     }
 
     fn marks(&self, rule: usize) -> Option<usize> {
-        let (from, to) = self.span(rule)?;
-        Some(to - from)
+        Some(self.numbers(rule)?.len())
     }
 
     fn mark(&self, rule: usize, place: usize) -> Option<Mark> {
-        let (from, to) = self.span(rule)?;
-        if place == 0 || place > to - from {
-            return None;
-        }
-        Some(mark_from(self.marks[from + place - 1]))
+        let number = self.numbers(rule)?.get(place.checked_sub(1)?)?;
+        Some(Mark::from(*number))
     }
-}
-
-// 7 is part 7 in, -7 is part 7 out.
-fn mark_from(number: i16) -> Mark
-    ensures { result ≡ mark_from number }
-{
-    let part = number.unsigned_abs() as usize;
-    let side = if number < 0 { Side::Out } else { Side::In };
-    Mark { part, side }
 }
 
 // Whether a book of n parts may be laid over the tables.
-fn can_lay(n: usize, rules: usize, marks: &[i16], ends: &[u16]) -> bool
-    ensures { result ≡ lays n rules marks.now ends.now }
+fn can_lay(n: usize, rules: usize, tables: &Tables) -> bool
+    ensures { result ≡ lays n rules tables.now.marks.items tables.now.ends.items }
 {
-    if n == 0 || n > MOST_PARTS || rules > MOST_TEXT_RULES || rules > ends.len() {
+    if n == 0 || n > MOST_PARTS || rules > MOST_TEXT_RULES || rules > tables.ends.len() {
         return false;
     }
-    let used = &ends[0..rules];
+    let marks = &tables.marks;
+    let used = &tables.ends[..rules];
     ends_rise(used, MOST_TEXT_MARKS.min(marks.len())) && rules_sound(n, marks, used)
 }
 
@@ -134,25 +116,18 @@ fn can_lay(n: usize, rules: usize, marks: &[i16], ends: &[u16]) -> bool
 fn ends_rise(ends: &[u16], limit: usize) -> bool
     ensures { result ≡ rising limit 0 ends.now }
 {
-    let mut from = 0;
-    for end in ends {
-        let to = *end as usize;
-        if to < from {
-            return false;
-        }
-        from = to;
-    }
-    from <= limit
+    ends.is_sorted() && ends.last().is_none_or(|end| usize::from(*end) <= limit)
 }
 
 // Whether each rule that the ends cut from the marks is sound.
+#[tactic(auto, using(crate::proofs::Spans::rising_more, crate::proofs::Spans::rules_drop))]
 fn rules_sound(n: usize, marks: &[i16], ends: &[u16]) -> bool
     requires { rising (min 16000 (length marks.now)) 0 ends.now ≡ true }
     ensures { result ≡ sound_rules n (cut 0 ends.now (map mark_from marks.now)) }
 {
     let mut from = 0;
     for end in ends {
-        let to = *end as usize;
+        let to = usize::from(*end);
         if !rule_sound(n, &marks[from..to]) {
             return false;
         }
@@ -165,11 +140,13 @@ fn rules_sound(n: usize, marks: &[i16], ends: &[u16]) -> bool
 fn rule_sound(n: usize, marks: &[i16]) -> bool
     ensures { result ≡ sound_rule n (map mark_from marks.now) }
 {
-    for (i, number) in marks.iter().enumerate() {
-        let part = mark_from(*number).part;
-        if part == 0 || part > n || names_part(&marks[i + 1..], part) {
+    let mut rest = marks;
+    while let Some((number, later)) = rest.split_first() {
+        let part = Mark::from(*number).part;
+        if part == 0 || part > n || names_part(later, part) {
             return false;
         }
+        rest = later;
     }
     true
 }
@@ -178,10 +155,8 @@ fn rule_sound(n: usize, marks: &[i16]) -> bool
 fn names_part(marks: &[i16], part: usize) -> bool
     ensures { result ≡ names (map mark_from marks.now) part }
 {
-    for number in marks {
-        if mark_from(*number).part == part {
-            return true;
-        }
-    }
-    false
+    marks
+        .iter()
+        .map(|number| Mark::from(*number))
+        .any(|mark| mark.part == part)
 }

@@ -7,7 +7,7 @@ ghost use Rattle.session.specs.View.{bench_of, machine_of, filled, Kept};
 use crate::Tried;
 use book::Book;
 use parts::Mark;
-use parts::refusals::Refusal;
+use parts::refusals::{Refusal, Refused};
 use picker::Picker;
 use search::{Forgetting, Report, Told};
 use session::Session;
@@ -28,8 +28,7 @@ pub fn fit<B: Book, P: Picker, S: Shelf>(
     ensures back { (result.book ≡ book) × (result.picker ≡ picker) }
 {
     match Session::open(book, picker, shelf, forget) {
-        Ok(session) => {
-            let mut session = session;
+        Ok(mut session) => {
             let reply = fit_under(&mut session, holds, budget, row);
             let (book, picker, shelf) = session.close();
             Tried {
@@ -39,11 +38,16 @@ pub fn fit<B: Book, P: Picker, S: Shelf>(
                 shelf,
             }
         }
-        Err(unopened) => Tried {
-            reply: Err(unopened.refusal),
-            book: unopened.book,
-            picker: unopened.picker,
-            shelf: unopened.shelf,
+        Err(
+            Refused {
+                refusal,
+                back: (book, picker, shelf),
+            },
+        ) => Tried {
+            reply: Err(refusal),
+            book,
+            picker,
+            shelf,
         },
     }
 }
@@ -79,8 +83,8 @@ fn hold_all<B: Book, P: Picker, S: Shelf>(
     ensures after { machine_of B.Book.meaning S.Shelf.meaning session.new ≡ (until (bench_of B.Book.meaning P.Picker.meaning session.old) (holding holds.now) (machine_of B.Book.meaning S.Shelf.meaning session.old)).state }
     ensures kept { Kept session.old session.new }
 {
-    for i in 0..holds.len() {
-        session.hold(holds[i].part, u64::from(holds[i].side.code()))?;
+    for hold in holds {
+        session.hold(hold.part, u64::from(u8::from(hold.side)))?;
     }
     Ok(())
 }

@@ -60,11 +60,13 @@ module _ (room : Room) (m done used : ℕ) (r : Rule) (rs : List Rule) where
   given_from : (l : Piece) → Kept room (place_of done used l) r → Given room m (done + 1) (used + length r) rs → Given room m done used (r ∷ rs)
   given_from l k g = record { sound = and_from (sound_rule room.n r) (sound_rules room.n rs) k.sound g.sound; fits = omega arith; all = omega arith; lines = g.lines }
 
-abbrev read_rule : Room → ℕ → ℕ → ℕ → ℕ → List Piece → Result Rule Fault → Result (List Rule) Fault
+-- how the lines after a rule line go on, by what that line reads as
+abbrev pub read_rule : Room → ℕ → ℕ → ℕ → ℕ → List Piece → Result Rule Fault → Result (List Rule) Fault
 read_rule room end m done used ls (Err e) = Err e
 read_rule room end m done used ls (Ok r) = after r (rules_of room end m (done + 1) (used + length r) ls)
 
-abbrev read_line : Room → ℕ → ℕ → ℕ → ℕ → Piece → List Piece → List Piece → Result (List Rule) Fault
+-- the same by the line's fields that count
+abbrev pub read_line : Room → ℕ → ℕ → ℕ → ℕ → Piece → List Piece → List Piece → Result (List Rule) Fault
 read_line room end m done used l ls [] = rules_of room end m done used ls
 read_line room end m done used l ls (f ∷ fs) =
     cond (ltb done m) (read_rule room end m done used ls (rule_of room (place_of done used l) [] (f ∷ fs))) (Err (fault RuleCount (l.at + f.at) (done + 1)))

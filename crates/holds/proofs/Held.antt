@@ -1,7 +1,7 @@
 -- One hold more, or less, and a part that no mark names.
-use Rattle.std.proofs.Common.{◌≡◌, ℕ, ◌+◌, ◌<◌, ◌≤◌, true, false, cond, eqb, List, [], ◌∷◌, ◌++◌, length, get_or, drop, sym, refl, ap, ◌∙◌, arith}
-use Rattle.std.proofs.lemmas.Bool.{or_parts, or_from, eqb-false, eq-eqb, ne_eqb, cond-true, cond-false}
-use Rattle.std.proofs.lemmas.List.{at_drop_more, at_drop_all, get_or-take, length-take-le}
+use Rattle.std.proofs.Common.{◌≡◌, ℕ, ◌≤◌, Bool, true, false, cond, not, ◌||◌, eqb, [], ◌∷◌, ◌++◌, filter, sym, refl, ap}
+use Rattle.std.proofs.lemmas.Bool.{or_parts, or_from, eqb-false, ne_eqb}
+use Rattle.std.specs.List.{list_any}
 use Rattle.parts.specs.declared.Mark.{Mark}
 use Rattle.book.specs.Meaning.{Rule, names, sound_rule}
 use Rattle.search.specs.Calls.{released}
@@ -42,24 +42,20 @@ released_sound n p (x ∷ r) s =
       | false ↦ sound_from n x (released p r) (record { low = f.low; high = f.high; new = released_names p r x.part f.new; rest = released_sound n p r f.rest })
     ]
 
--- the two ways of a mark
-pub release_same : (p : ℕ) (m : Mark) (r : Rule) → m.part ≡ p → released p (m ∷ r) ≡ released p r
+-- taking a part out leaves the marks of the others
+pub released_filter : (p : ℕ) (r : Rule) → filter (λ (m : Mark). not (eqb m.part p)) r ≡ released p r
 unfolding released
-release_same p m r e = cond-true (eqb m.part p) _ _ (eq-eqb _ _ e)
+released_filter p [] = refl
+released_filter p (x ∷ r) = by (eqb x.part p) (released_filter p r)
+  where
+    by : (b : Bool) → filter (λ (m : Mark). not (eqb m.part p)) r ≡ released p r → cond (not b) (x ∷ filter (λ (m : Mark). not (eqb m.part p)) r) (filter (λ (m : Mark). not (eqb m.part p)) r) ≡ cond b (released p r) (x ∷ released p r)
+    by true e = e
+    by false e = ap (λ l. x ∷ l) e
 
-pub release_other : (p : ℕ) (m : Mark) (r : Rule) → (m.part ≡ p → ⊥) → released p (m ∷ r) ≡ m ∷ released p r
-unfolding released
-release_other p m r e = cond-false (eqb m.part p) _ _ (ne_eqb _ _ e)
-
--- a walk along the holds
-pub count_holds : (h : Holds) → length (holds_of h) ≡ h.len
-count_holds h = length-take-le h.len h.order (omega (arith, h.short, h.long))
-
-pub hold_next : {Y : Type 0} (F : List Mark → Y) (h : Holds) (i : ℕ) (d : Mark) → i < h.len → F (drop i (holds_of h)) ≡ F (get_or h.order i d ∷ drop (i + 1) (holds_of h))
-hold_next F h i d l = at_drop_more F (holds_of h) i d (omega (arith, l, count_holds h)) ∙ ap (λ m. F (m ∷ drop (i + 1) (holds_of h))) (get_or-take h.len h.order i d l)
-
-pub hold_end : {Y : Type 0} (F : List Mark → Y) (h : Holds) (i : ℕ) → h.len ≤ i → F (drop i (holds_of h)) ≡ F []
-hold_end F h i l = at_drop_all F (holds_of h) i (omega (arith, l, count_holds h))
+-- whether some mark names a part
+pub names_any : (r : Rule) (p : ℕ) → list_any (λ (m : Mark). eqb m.part p) r ≡ names r p
+names_any [] p = refl
+names_any (x ∷ r) p = ap (λ b. eqb x.part p || b) (names_any r p)
 
 -- what always holds of the holds
 pub holds_sound : (h : Holds) → sound_rule 120 (holds_of h) ≡ true

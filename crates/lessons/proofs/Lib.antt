@@ -1,2 +1,3 @@
+pub mod Ranges
 pub mod Rounds
 pub mod Sweeping

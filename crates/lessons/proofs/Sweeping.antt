@@ -1,8 +1,8 @@
 -- The open marks of a lesson, and the places that forgetting leaves.
-use Rattle.std.proofs.Common.{◌≡◌, ℕ, suc, ◌+◌, ◌<◌, ◌≤◌, Bool, true, false, cond, not, ◌&&◌, List, [], ◌∷◌, ◌++◌, length, get_or, take, drop, set, is_some, Some, None, Option, unwrap_or, sym, refl, ap, ◌∙◌, add-one, arith}
+use Rattle.std.proofs.Common.{◌≡◌, ℕ, suc, ◌+◌, ◌-◌, ◌<◌, ◌≤◌, Bool, true, false, cond, not, ◌&&◌, List, [], ◌∷◌, ◌++◌, filter, is_none, length, get_or, take, drop, set, Some, None, Option, unwrap_or, sym, refl, ap, ◌∙◌, add-one, arith}
+use Rattle.std.specs.List.{filter_map}
 use Rattle.std.specs.Option.{option_map}
 use Rattle.std.proofs.lemmas.List.{append-nil, append_assoc, at_drop_more, length-set, take_all, take_more_set, drop-set-lt, set-get_or, drop_all}
-use Rattle.std.proofs.lemmas.Option.{slice_get-get_or}
 use Rattle.std.proofs.lemmas.Bool.{and_right, cond-true}
 use Rattle.std.proofs.lemmas.Bool.Decides.{nat_tests}
 use Rattle.parts.specs.Lists.{at_place, then_at}
@@ -14,7 +14,9 @@ use Rattle.book.specs.Meaning.{Rule}
 use Rattle.shelf.specs.Meaning.{Shelved, row_of, cleared as emptied}
 use Rattle.search.specs.declared.Forgetting.{Forgetting}
 use Rattle.search.specs.declared.Forgetting.TheVariants.{KeepAll}
-use Rattle.search.specs.Trail.{Trail, settled, against}
+use Rattle.search.specs.Trail.{Trail, from, settled, against}
+use Rattle.search.proofs.Basics.{some_none}
+use Rattle.lessons.proofs.Ranges.{asked_in_turn}
 use Rattle.search.specs.Machine.{Places, counts_open, open_count, needed, lets_go, goes, cleared, lets, sweep, swept}
 
 -- the marks of what stands at a place
@@ -25,25 +27,27 @@ pub marks_count : (o : Option (List ℕ)) (n : ℕ) → Some n ≡ option_map (�
 marks_count None n e = let z : ◌≡◌ {A = ℕ} 0 1 = cc in absurd (omega arith)
 marks_count (Some r) n e = cc
 
-pub mark_there : (o : Option (List ℕ)) (k : ℕ) (d : Mark) → k < length (marks_of o) → then_at o (λ row. at_place (row_marks row) (k + 1)) ≡ Some (get_or (marks_of o) k d)
-mark_there None k d h = absurd (omega arith)
-mark_there (Some r) k d h = ap (at_place (row_marks r)) (add-one k) ∙ slice_get-get_or (row_marks r) k d h
-
 -- a mark is open where its part is not settled
-open_mark : (v : Option Side) (s : Side) → counts_open (against s v) ≡ not (is_some v)
-open_mark None s = refl
-open_mark (Some In) In = refl
-open_mark (Some In) Out = refl
-open_mark (Some Out) In = refl
-open_mark (Some Out) Out = refl
-
--- one mark more
-pub open_more : (t : Trail) (ms : Rule) (k : ℕ) (d : Mark) (b : Bool) → k < length ms → b ≡ not (is_some (settled t (get_or ms k d).part))
-    → open_count t (drop k ms) ≡ cond b (suc (open_count t (drop (k + 1) ms))) (open_count t (drop (k + 1) ms))
+pub open_length : (t : Trail) (ms : Rule) → length (filter (λ (m : Mark). is_none (settled t m.part)) ms) ≡ open_count t ms
 unfolding open_count
-open_more t ms k d b h e =
-    at_drop_more (open_count t) ms k d h
-    ∙ ap (λ b. cond b (suc (open_count t (drop (k + 1) ms))) (open_count t (drop (k + 1) ms))) (open_mark (settled t (get_or ms k d).part) (get_or ms k d).side ∙ sym e)
+open_length t [] = refl
+open_length t (m ∷ ms) = by (settled t m.part) m.side (open_length t ms)
+  where
+    by : (v : Option Side) (s : Side) → length (filter (λ (m : Mark). is_none (settled t m.part)) ms) ≡ open_count t ms
+        → length (cond (is_none v) (m ∷ filter (λ (m : Mark). is_none (settled t m.part)) ms) (filter (λ (m : Mark). is_none (settled t m.part)) ms)) ≡ cond (counts_open (against s v)) (suc (open_count t ms)) (open_count t ms)
+    by None s e = ap suc e
+    by (Some In) In e = e
+    by (Some In) Out e = e
+    by (Some Out) In e = e
+    by (Some Out) Out e = e
+
+-- the marks of a lesson, asked one by one
+pub lesson_asked : (o : Option (List ℕ)) (n : ℕ) → Some n ≡ option_map (λ row. length (row_marks row)) o → filter_map (λ k. then_at o (λ row. at_place (row_marks row) k)) (from 1 n) ≡ marks_of o
+lesson_asked o n e = ap (λ n. filter_map (λ k. then_at o (λ row. at_place (row_marks row) k)) (from 1 n)) (marks_count o n e) ∙ by o n e
+  where
+    by : (o : Option (List ℕ)) (n : ℕ) → Some n ≡ option_map (λ row. length (row_marks row)) o → filter_map (λ k. then_at o (λ row. at_place (row_marks row) k)) (from 1 (length (marks_of o))) ≡ marks_of o
+    by None n e = absurd (some_none e)
+    by (Some r) n e = asked_in_turn (λ k. at_place (row_marks r) k) 0 (row_marks r) (λ j. let k : 1 + j ≡ suc j = omega arith in ap (at_place (row_marks r)) k)
 
 -- whether a lesson goes
 module _ (f : Forgetting) (t : Trail) (p : ℕ) (o : Option (List ℕ)) (n u : ℕ) (e : Some n ≡ option_map (λ row. length (row_marks row)) o) (h : u ≡ open_count t (marks_of o)) where
@@ -99,22 +103,32 @@ module _ (f : Forgetting) (t : Trail) (i : ℕ) (rows : Places) where
   unfolding sweep
   swept_all h = ap (λ l. l ++ sweep f t (i + 1) (drop i rows)) (take_all i rows h) ∙ ap (λ l. rows ++ sweep f t (i + 1) l) (drop_all i rows h) ∙ append-nil rows
 
--- a shelf whose places before i are swept
+-- a shelf whose first i places are swept
 abbrev pub SweptTo : Forgetting → Trail → Shelved → ℕ → Shelved → Type 0
 SweptTo f t old i s = (s.n ≡ old.n) × (length s.rows ≡ length old.rows) × (to_sweep f t i s.rows ≡ sweep f t 1 old.rows)
 
-module _ (f : Forgetting) (t : Trail) (old : Shelved) (i : ℕ) (s : Shelved) (d : SweptTo f t old i s) where
-  pub goes_on : i < length old.rows → lets f t (i + 1) (row_of s (i + 1)) ≡ false → SweptTo f t old (i + 1) s
-  goes_on h e = (d.0, d.1, sym (swept_past f t i s.rows (omega (arith, d.1)) (sym (ap (λ j. lets f t (i + 1) (row_of s j)) (add-one i)) ∙ e)) ∙ d.2)
+-- one place more: those before it are swept
+module _ (f : Forgetting) (t : Trail) (old : Shelved) (p : ℕ) (s : Shelved) (d : SweptTo f t old (p - 1) s) where
+  module _ (lo : 1 ≤ p) (hi : p ≤ length old.rows) where
+    here : (b : Bool) → lets f t p (row_of s p) ≡ b → lets f t (p - 1 + 1) (get_or s.rows (p - 1) None) ≡ b
+    here b e =
+        let i : p - 1 + 1 ≡ p = omega arith in
+        let k : suc (p - 1) ≡ p = omega arith in
+        ap (λ j. lets f t j (get_or s.rows (p - 1) None)) i ∙ ap (λ j. lets f t p (row_of s j)) k ∙ e
 
-  pub goes_empty : i < length old.rows → lets f t (i + 1) (row_of s (i + 1)) ≡ true → SweptTo f t old (i + 1) (emptied s (i + 1))
-  goes_empty h e =
-      let r : emptied s (i + 1) ≡ record { n = s.n; rows = set s.rows i None } =
-      cond-true _ _ s (grind (arith, nat_tests, d.1)) ∙ ap (λ j. record { n = s.n; rows = set s.rows j None }) (omega arith) in
-      rw r (d.0, length-set s.rows i None ∙ d.1, sym (swept_away f t i s.rows (omega (arith, d.1)) (sym (ap (λ j. lets f t (i + 1) (row_of s j)) (add-one i)) ∙ e)) ∙ d.2)
+    next : p - 1 + 1 ≡ p + 1 - 1
+    next = omega arith
 
-  pub all_swept : length old.rows ≤ i → s ≡ swept f t old
+    pub goes_on : lets f t p (row_of s p) ≡ false → SweptTo f t old (p + 1 - 1) s
+    goes_on e = (d.0, d.1, sym (swept_past f t (p - 1) s.rows (omega (arith, d.1)) (here false e) ∙ ap (λ j. to_sweep f t j s.rows) next) ∙ d.2)
+
+    pub goes_empty : lets f t p (row_of s p) ≡ true → SweptTo f t old (p + 1 - 1) (emptied s p)
+    goes_empty e =
+        let r : emptied s p ≡ record { n = s.n; rows = set s.rows (p - 1) None } = cond-true _ _ s (grind (arith, nat_tests, d.1)) in
+        rw r (d.0, length-set s.rows (p - 1) None ∙ d.1, sym (swept_away f t (p - 1) s.rows (omega (arith, d.1)) (here true e) ∙ ap (λ j. to_sweep f t j (set s.rows (p - 1) None)) next) ∙ d.2)
+
+  pub all_swept : length old.rows < p → s ≡ swept f t old
   unfolding swept
   all_swept h =
       ap (λ n. record { n = n; rows = s.rows }) d.0
-      ∙ ap (λ rows. record { n = old.n; rows = rows }) (sym (swept_all f t i s.rows (omega (arith, d.1))) ∙ d.2)
+      ∙ ap (λ rows. record { n = old.n; rows = rows }) (sym (swept_all f t (p - 1) s.rows (omega (arith, d.1))) ∙ d.2)

@@ -15,16 +15,10 @@ fn open_marks<S: Shelf>(shelf: &S, place: usize, marks: usize, trail: &Trail) ->
     requires { Some marks ≡ marks_of_place (S.Shelf.meaning shelf.now) place }
     ensures { result ≡ open_count (trail_of trail.now) (row_marks (unwrap_or (row_of (S.Shelf.meaning shelf.now) place) [])) }
 {
-    let mut count = 0;
-    for k in 0..marks {
-        let Some(mark) = shelf.mark(place, k + 1) else {
-            continue;
-        };
-        if trail.code(mark.part) == 0 {
-            count += 1;
-        }
-    }
-    count
+    (1..=marks)
+        .filter_map(|k| shelf.mark(place, k))
+        .filter(|mark| trail.settled(mark.part).is_none())
+        .count()
 }
 
 // Whether a lesson of so many marks, so many of them free, goes.
@@ -41,6 +35,7 @@ pub fn lets_go(forget: Forgetting, marks: usize, free: usize) -> bool
 }
 
 // Whether the lesson at a place goes: the rule lets it go, and it is no reason on the trail.
+// Stays shelf and trail side by side: the sweep writes to the shelf that the others only ask.
 fn goes<S: Shelf>(shelf: &S, forget: Forgetting, trail: &Trail, place: usize) -> bool
     ensures { result ≡ lets forget (trail_of trail.now) place (row_of (S.Shelf.meaning shelf.now) place) }
 {
@@ -54,12 +49,12 @@ fn goes<S: Shelf>(shelf: &S, forget: Forgetting, trail: &Trail, place: usize) ->
 pub fn sweep<S: Shelf>(shelf: &mut S, forget: Forgetting, trail: &Trail)
     ensures { S.Shelf.meaning shelf.new ≡ swept forget (trail_of trail.now) (S.Shelf.meaning shelf.old) }
 {
-    if let Forgetting::KeepAll = forget {
+    if forget == Forgetting::KeepAll {
         return;
     }
-    for i in 0..shelf.places() {
-        if goes(shelf, forget, trail, i + 1) {
-            let _ = shelf.clear(i + 1);
+    for place in 1..=shelf.places() {
+        if goes(shelf, forget, trail, place) {
+            let _ = shelf.clear(place);
         }
     }
 }

@@ -1,8 +1,7 @@
 // The place of the shelf that is written next.
-ghost use Rattle.std.specs.Prelude.{◌≡◌, suc, ◌+◌, ◌^◌, ◌<◌, not};
+ghost use Rattle.std.specs.Prelude.{◌≡◌, ℕ, ◌^◌, ◌+◌, ◌<◌, ◌≤◌, Bool, not, length, find, IfSome, unwrap_or};
 ghost use Rattle.parts.specs.Lists.{at_place};
-ghost use Rattle.search.specs.Trail.{from};
-ghost use Rattle.search.specs.Machine.{first, when, is_empty, needed, next_place};
+ghost use Rattle.search.specs.Machine.{around, is_empty, needed, next_place};
 ghost use Rattle.trail.specs.Stacks.{trail_of};
 
 use shelf::Shelf;
@@ -12,56 +11,40 @@ use trail::Trail;
 fn is_empty<S: Shelf>(shelf: &S, place: usize) -> bool
     ensures { result ≡ is_empty (at_place (S.Shelf.meaning shelf.now).rows place) }
 {
-    match shelf.code(place, 1) {
-        Ok(code) => code.is_none(),
-        Err(_) => false,
-    }
+    matches!(shelf.code(place, 1), Ok(None))
 }
 
-// The first empty one of so many places after a place.
-fn first_empty<S: Shelf>(shelf: &S, after: usize, count: usize) -> Option<usize>
-    requires { after + count < 2 ^ 64 }
-    ensures { result ≡ first (λ i. when (is_empty (at_place (S.Shelf.meaning shelf.now).rows i)) i) (from (suc after) count) }
+// The first place that passes a test, of those after the last written, going round to it.
+fn first_around<F: Fn(usize) -> bool>(places: usize, last: usize, passes: F) -> Option<usize>
+    requires callable { F.IsAlwaysCallable passes }
+    requires few { places + 1 < 2 ^ 64 }
+    ensures { (test : ℕ → Bool) → ((place : ℕ) (answer : Bool) → F.post passes place answer → answer ≡ test place) → result ≡ find test (around last places) }
 {
-    for i in 0..count {
-        let place = after + i + 1;
-        if is_empty(shelf, place) {
-            return Some(place);
-        }
-    }
-    None
+    (last.saturating_add(1)..=places)
+        .chain(1..=last)
+        .find(|place| passes(*place))
 }
 
-// The first one of so many places after a place that is no reason on the trail.
-fn first_free(trail: &Trail, after: usize, count: usize) -> Option<usize>
-    requires { after + count < 2 ^ 64 }
-    ensures { result ≡ first (λ i. when (not (needed (trail_of trail.now) i)) i) (from (suc after) count) }
+// The next empty place after the last written, going round to it.
+fn first_empty<S: Shelf>(shelf: &S, last: usize) -> Option<usize>
+    ensures { result ≡ find (λ place. is_empty (at_place (S.Shelf.meaning shelf.now).rows place)) (around last (length (S.Shelf.meaning shelf.now).rows)) }
 {
-    for i in 0..count {
-        let place = after + i + 1;
-        if !trail.needed(place) {
-            return Some(place);
-        }
-    }
-    None
+    first_around(shelf.places(), last, |place| is_empty(shelf, place))
 }
 
-// The place to write: the next empty one after the last written, going round; else the next that is no reason on the trail; 0 where all are.
-pub fn next_place<S: Shelf>(shelf: &S, last: usize, trail: &Trail) -> usize
-    ensures { result ≡ next_place (S.Shelf.meaning shelf.now).rows last (trail_of trail.now) }
+// The next of so many places that is no reason on the trail.
+fn first_free(places: usize, last: usize, trail: &Trail) -> Option<usize>
+    requires { places + 1 < 2 ^ 64 }
+    ensures { result ≡ find (λ place. not (needed (trail_of trail.now) place)) (around last places) }
 {
-    let ahead = shelf.places().saturating_sub(last);
-    if let Some(place) = first_empty(shelf, last, ahead) {
-        return place;
-    }
-    if let Some(place) = first_empty(shelf, 0, last) {
-        return place;
-    }
-    if let Some(place) = first_free(trail, last, ahead) {
-        return place;
-    }
-    if let Some(place) = first_free(trail, 0, last) {
-        return place;
-    }
-    0
+    first_around(places, last, |place| !trail.needed(place))
+}
+
+// The place to write: the next empty one; else the next that is no reason on the trail; nothing where all are.
+pub fn next_place<S: Shelf>(shelf: &S, last: usize, trail: &Trail) -> Option<usize>
+    ensures place { unwrap_or result 0 ≡ next_place (S.Shelf.meaning shelf.now).rows last (trail_of trail.now) }
+    ensures some { IfSome result (λ place. 1 ≤ place) }
+{
+    let places = shelf.places();
+    first_empty(shelf, last).or_else(|| first_free(places, last, trail))
 }

@@ -1,5 +1,6 @@
 -- Codes and rows of codes: 0 open (or not named), 1 in, 2 out.
-use Rattle.std.specs.Prelude.{ℕ, Bool, true, cond, ◌&&◌, List, [], ◌∷◌, length, Some, None, Option, ◌==◌, nat_le}
+use Rattle.std.specs.Prelude.{ℕ, Bool, cond, ◌&&◌, List, length, Some, None, Option, ◌==◌, nat_le}
+use Rattle.std.specs.List.{list_all}
 use Rattle.parts.specs.declared.Side.{Side}
 use Rattle.parts.specs.declared.Side.TheVariants.{In, Out}
 
@@ -14,8 +15,7 @@ side_of c = cond (c == 1) (Some In) (cond (c == 2) (Some Out) None)
 
 -- each is 0, 1 or 2
 abbrev pub all_codes : List ℕ → Bool
-all_codes [] = true
-all_codes (c ∷ cs) = nat_le c 2 && all_codes cs
+all_codes cs = list_all (λ c. nat_le c 2) cs
 
 -- a row of n codes
 abbrev pub is_row : ℕ → List ℕ → Bool

@@ -2,41 +2,50 @@
 #![tactic(auto)]
 
 ghost use Rattle.std.specs.Prelude.{◌≡◌, ℕ};
+ghost use Rattle.std.specs.Option.{ok_or};
+ghost use Rattle.parts.specs.declared.refusals.Refusal.TheVariants.{NoSide};
 ghost use Rattle.parts.specs.Codes.{code_of, side_of, is_row};
-ghost use Rattle.parts.specs.Marks.{other_side, opposite_of};
+ghost use Rattle.parts.specs.Marks.{mark_from, other_side, opposite_of};
 
 pub mod limits;
 pub mod refusals;
 
-// Where a mark puts its part (the literal's sign).
-#[derive(Clone, Copy, Debug, PartialEq, Eq)]
+use refusals::Refusal;
+
+// Where a mark puts its part (the literal's sign), by its code in a row: 1 in, 2 out; 0 is left for an open part.
+// The default, as that of a mark, only fills what a table has not used yet.
+#[derive(Clone, Copy, Debug, Default, PartialEq, Eq)]
 pub enum Side {
-    In,
-    Out,
+    #[default]
+    In = 1,
+    Out = 2,
+}
+
+// The code of a side.
+impl From<Side> for u8 {
+    ghost from_gives = { λ side code. code ≡ code_of side };
+
+    fn from(side: Side) -> u8 {
+        side as u8
+    }
+}
+
+// The side that a code stands for, if it is one.
+impl TryFrom<u64> for Side {
+    type Error = Refusal;
+
+    ghost try_from_gives = { λ code side. side ≡ ok_or (side_of code) NoSide };
+
+    fn try_from(code: u64) -> Result<Side, Refusal> {
+        match code {
+            1 => Ok(Side::In),
+            2 => Ok(Side::Out),
+            _ => Err(Refusal::NoSide),
+        }
+    }
 }
 
 impl Side {
-    // The code of the side in a row: 1 in, 2 out; 0 is left for an open part.
-    pub fn code(self) -> u8
-        ensures { result ≡ code_of self }
-    {
-        match self {
-            Side::In => 1,
-            Side::Out => 2,
-        }
-    }
-
-    // The side that a code stands for, if it is one.
-    pub fn from_code(code: u64) -> Option<Side>
-        ensures { result ≡ side_of code }
-    {
-        match code {
-            1 => Some(Side::In),
-            2 => Some(Side::Out),
-            _ => None,
-        }
-    }
-
     // The side that this one is not.
     pub fn opposite(self) -> Side
         ensures { result ≡ other_side self }
@@ -49,10 +58,22 @@ impl Side {
 }
 
 // A part (a variable), counted from 1, and the side that it is put on (together: a literal).
-#[derive(Clone, Copy, Debug, PartialEq, Eq)]
+#[derive(Clone, Copy, Debug, Default, PartialEq, Eq)]
 pub struct Mark {
     pub part: usize,
     pub side: Side,
+}
+
+// The mark that a signed number stands for: 7 is part 7 in, -7 is part 7 out.
+impl From<i16> for Mark {
+    ghost from_gives = { λ number mark. mark ≡ mark_from number };
+
+    fn from(number: i16) -> Mark {
+        Mark {
+            part: usize::from(number.unsigned_abs()),
+            side: if number < 0 { Side::Out } else { Side::In },
+        }
+    }
 }
 
 impl Mark {
@@ -71,13 +92,5 @@ impl Mark {
 pub fn is_row(codes: &[u8], n: usize) -> bool
     ensures { result ≡ is_row n codes.now }
 {
-    if codes.len() != n {
-        return false;
-    }
-    for code in codes {
-        if *code > 2 {
-            return false;
-        }
-    }
-    true
+    codes.len() == n && codes.iter().all(|code| *code <= 2)
 }

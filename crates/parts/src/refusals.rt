@@ -2,6 +2,8 @@
 ghost use Rattle.std.specs.Prelude.{◌≡◌};
 ghost use Rattle.parts.specs.Numbers.{number_of};
 
+use std::fmt;
+
 // Why a call is refused. Where several apply, the first of this list is told, unless a call's own order says otherwise.
 #[derive(Clone, Copy, Debug, PartialEq, Eq)]
 pub enum Refusal {
@@ -39,13 +41,26 @@ pub enum Refusal {
     SheetOutOfOrder = 27,
 }
 
-impl Refusal {
-    // The refusal's number, as it is printed.
-    pub fn number(self) -> u8
-        ensures { result ≡ number_of self }
-    {
-        self as u8
+// The refusal's number, as it is printed.
+impl From<Refusal> for u8 {
+    ghost from_gives = { λ refusal number. number ≡ number_of refusal };
+
+    fn from(refusal: Refusal) -> u8 {
+        refusal as u8
     }
+}
+
+impl fmt::Display for Refusal {
+    fn fmt<W: fmt::Write>(&self, f: &mut fmt::Formatter<W>) -> fmt::Result {
+        write!(f, "{}", u8::from(*self))
+    }
+}
+
+// Why a call was refused, and what it was given, as it was.
+#[derive(Drop)]
+pub struct Refused<T> {
+    pub refusal: Refusal,
+    pub back: T,
 }
 
 // Where a reading was refused: which refusal, its byte from 0, and the rule being read.
@@ -53,5 +68,13 @@ impl Refusal {
 pub struct Fault {
     pub refusal: Refusal,
     pub byte: usize,
+    // Stays 0 in the head: it is printed as this number.
     pub rule: usize,
+}
+
+// Number, byte and rule, parted by tabs.
+impl fmt::Display for Fault {
+    fn fmt<W: fmt::Write>(&self, f: &mut fmt::Formatter<W>) -> fmt::Result {
+        write!(f, "{}\t{}\t{}", self.refusal, self.byte, self.rule)
+    }
 }

@@ -1,5 +1,6 @@
 -- What a picker means: n parts, and for each row with an open part the mark to settle next (a branching heuristic).
-use Rattle.std.specs.Prelude.{◌≡◌, ℕ, ◌-◌, ◌≤◌, Bool, true, false, cond, ◌&&◌, ◌||◌, List, [], ◌∷◌, Some, None, Option, ◌==◌, nat_le, slice_index_or}
+use Rattle.std.specs.Prelude.{◌≡◌, ℕ, ◌-◌, ◌≤◌, Bool, true, cond, ◌&&◌, List, Some, None, Option, ◌==◌, nat_le, slice_index_or}
+use Rattle.std.specs.List.{list_any}
 use Rattle.parts.specs.declared.Mark.{Mark}
 use Rattle.parts.specs.Codes.{is_row}
 
@@ -9,8 +10,7 @@ pub record Picks : Type 0 where
 
 -- whether some code is open
 abbrev pub some_open : List ℕ → Bool
-some_open [] = false
-some_open (c ∷ cs) = c == 0 || some_open cs
+some_open cs = list_any (λ c. c == 0) cs
 
 -- the rows that a picker of n parts has an answer for
 abbrev pub asks : ℕ → List ℕ → Bool

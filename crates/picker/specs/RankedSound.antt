@@ -1,20 +1,37 @@
 -- Why the picker of a ranked list is sound: the list names no part past its length, and leaves none out.
-use Rattle.std.specs.Prelude.{◌≡◌, ℕ, zero, suc, ◌+◌, ◌-◌, ◌<◌, ◌≤◌, true, false, ◌⊎◌, List, [], ◌∷◌, length, Some, None, Decides, Option, MatchOption, ◌==◌, nat_eq, nat_le, slice_index_or, refl}
-use Rattle.std.proofs.Common.{ap, ◌∙◌, inl, inr, ⊎_elim, arith}
+use Rattle.std.specs.Prelude.{◌≡◌, ℕ, zero, suc, ◌+◌, ◌-◌, ◌<◌, ◌≤◌, Bool, true, false, cond, ◌⊎◌, List, [], ◌∷◌, length, Some, None, Decides, Option, MatchOption, ◌==◌, nat_le, slice_index_or, refl}
+use Rattle.std.proofs.Common.{ap, ◌∙◌, inl, inr, sym, subst, get_or, ⊎_elim, arith}
 use Rattle.std.specs.Option.{unwrap_or}
-use Rattle.std.specs.List.{AllByRecursion}
+use Rattle.std.specs.List.{AllByRecursion, list_all, range_with_len}
+use Rattle.std.proofs.lemmas.List.FromFn.{length-range_with_len, get_or-range_with_len}
+use Rattle.std.proofs.lemmas.List.Recursion.{and_at, and_from_places}
+use Rattle.std.proofs.lemmas.List.Sums.{sum_by-cons}
 use Rattle.std.proofs.lemmas.Bool.{and_parts, leb-true, eqb-true, eq-eqb, ne_eqb, cond_both, both_ways}
-use Rattle.std.proofs.lemmas.Bool.Decides.{eqb_tells, Decides-eqb, Decides-below_and}
+use Rattle.std.proofs.lemmas.Bool.Decides.{eqb_tells}
 use Rattle.parts.specs.declared.Mark.{Mark}
 use Rattle.parts.specs.declared.Side.TheVariants.{Out}
 use Rattle.parts.specs.Codes.{is_row, all_codes}
 use Rattle.picker.specs.Meaning.{Free, Sound, some_open, asks, a_size}
 use Rattle.picker.specs.Lowest.{lowest_open, lowest_free}
-use Rattle.picker.specs.Ranking.{tally, times, each_once, ranks, open_in, first_open, ranked_picks}
+use Rattle.picker.specs.Ranking.{times, each_once, ranks, open_in, first_open, ranked_picks}
+
+part_at : (n k : ℕ) → k < n → get_or (range_with_len 1 n) k 0 ≡ suc k
+part_at n k l = omega (arith, get_or-range_with_len 1 n k 0 l)
 
 -- each part up to n is named once exactly if the test says so
 pub once_decides : (ms : List Mark) (n : ℕ) → Decides (each_once n ms) ((k : ℕ) → k < n → times ms (suc k) ≡ 1)
-once_decides ms n = Decides-below_and (λ k. nat_eq (times ms (suc k)) 1) (λ k. times ms (suc k) ≡ 1) (λ k. each_once k ms) (λ k. Decides-eqb (times ms (suc k)) 1) refl (λ _. refl) n
+once_decides ms n =
+    let once : ℕ → Bool = λ part. times ms part == 1 in
+    let parts = range_with_len 1 n in (
+      λ h k l. eqb-true (times ms (suc k)) 1 (subst (λ p. once p ≡ true) (part_at n k l) (and_at (list_all once) once refl (λ _ _. refl) parts k 0 (rw length-range_with_len l) h)),
+      λ f.
+          and_from_places (list_all once) once refl (λ _ _. refl) parts 0
+          (λ k h. let l = rw length-range_with_len at h in subst (λ p. once p ≡ true) (sym (part_at n k l)) (eq-eqb (times ms (suc k)) 1 (f k l))),
+    )
+
+-- 1 where the test holds
+abbrev tally : Bool → ℕ
+tally b = cond b 1 0
 
 -- how often a part is one of the first k, and how often the marks name one of those
 abbrev hits : ℕ → ℕ → ℕ
@@ -38,15 +55,17 @@ hits_none : (ms : List Mark) → all_hits 0 ms ≡ 0
 hits_none [] = refl
 hits_none (m ∷ ms) = omega (arith, hits_none ms)
 
+-- the marks that name a part, the first mark apart
+times_more : (p : ℕ) (m : Mark) (ms : List Mark) → times (m ∷ ms) p ≡ tally (m.part == p) + times ms p
+times_more p m ms = sum_by-cons (λ x. tally (x.part == p)) m ms
+
 hits_more : (k : ℕ) (ms : List Mark) → all_hits (suc k) ms ≡ times ms (suc k) + all_hits k ms
 hits_more k [] = refl
-hits_more k (m ∷ ms) = omega (arith, hits_more k ms)
+hits_more k (m ∷ ms) = omega (arith, hits_more k ms, times_more (suc k) m ms)
 
-hits_once : (k : ℕ) (ms : List Mark) → each_once k ms ≡ true → all_hits k ms ≡ k
+hits_once : (k : ℕ) (ms : List Mark) → ((j : ℕ) → j < k → times ms (suc j) ≡ 1) → all_hits k ms ≡ k
 hits_once zero ms h = hits_none ms
-hits_once (suc k) ms h =
-    let p = and_parts (times ms (suc k) == 1) (each_once k ms) h in
-    omega (arith, hits_more k ms, hits_once k ms p.1, eqb-true (times ms (suc k)) 1 p.0)
+hits_once (suc k) ms h = omega (arith, hits_more k ms, hits_once k ms (λ j l. h j (omega arith)), h k (omega arith))
 
 hits_few : (k : ℕ) (ms : List Mark) → all_hits k ms ≤ length ms
 hits_few k [] = omega arith
@@ -62,7 +81,7 @@ hits_all k (m ∷ ms) h =
     ⊎_elim (λ z. absurd (omega arith)) (λ z. ((z.1, z.2), hits_all k ms (omega arith))) (hits_tell k m.part)
 
 pub ranks_within : (ms : List Mark) → ranks ms ≡ true → AllByRecursion (Within (length ms)) ms
-ranks_within ms h = hits_all (length ms) ms (hits_once (length ms) ms (and_parts (a_size (length ms)) (each_once (length ms) ms) h).1)
+ranks_within ms h = hits_all (length ms) ms (hits_once (length ms) ms ((once_decides ms (length ms)).0 (and_parts (a_size (length ms)) (each_once (length ms) ms) h).1))
 
 -- the first open mark, or none where all are settled
 abbrev pub Closed : List ℕ → List Mark → Type 0
@@ -86,7 +105,7 @@ first_found P row (m ∷ ms) a =
 unnamed : (row : List ℕ) (ms : List Mark) (p : ℕ) → open_in row p ≡ true → Closed row ms → times ms p ≡ 0
 unnamed row [] p h a = refl
 unnamed row (m ∷ ms) p h a =
-    omega (arith, ap tally (ne_eqb m.part p (λ e. both_ways (open_in row m.part) a.0 (ap (open_in row) e ∙ h))), unnamed row ms p h a.1)
+    omega (arith, ap tally (ne_eqb m.part p (λ e. both_ways (open_in row m.part) a.0 (ap (open_in row) e ∙ h))), unnamed row ms p h a.1, times_more p m ms)
 
 -- some mark of the list is open where some part is
 named : (row : List ℕ) (ms : List Mark) → ranks ms ≡ true → length row ≡ length ms → some_open row ≡ true → Closed row ms → ⊥

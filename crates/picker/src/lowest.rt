@@ -1,8 +1,8 @@
 // The picker of the lowest open part, out.
-ghost use Rattle.std.specs.Prelude.{◌≡◌, true, false, if◌then◌else◌, Some, None, MatchResult};
+ghost use Rattle.std.specs.Prelude.{◌≡◌, ◌==◌, true, false, position, MatchResult};
 ghost use Rattle.parts.specs.declared.refusals.Refusal.TheVariants.{NotAPicker};
-ghost use Rattle.picker.specs.Meaning.{some_open, a_size};
-ghost use Rattle.picker.specs.Lowest.{lowest_open, lowest_picks, lowest_sound};
+ghost use Rattle.picker.specs.Meaning.{a_size};
+ghost use Rattle.picker.specs.Lowest.{lowest_picks, lowest_sound};
 
 use crate::Picker;
 use parts::limits::MOST_PARTS;
@@ -37,26 +37,22 @@ impl Picker for Lowest {
         self.n
     }
 
+    #[tactic(auto, using(crate::specs::Lowest::some_place))]
     fn pick(&self, row: &[u8]) -> Option<Mark> {
         if !is_row(row, self.n) {
             return None;
         }
-        let part = lowest_open(row)?;
+        let place = first_open(row)?;
         Some(Mark {
-            part,
+            part: place + 1,
             side: Side::Out,
         })
     }
 }
 
-// The lowest part whose code is open.
-fn lowest_open(row: &[u8]) -> Option<usize>
-    ensures { result ≡ (if some_open row.now then Some (lowest_open row.now) else None) }
+// Where the first open code stands, from 0.
+fn first_open(row: &[u8]) -> Option<usize>
+    ensures { result ≡ position (λ c. c == 0) row.now }
 {
-    for (i, code) in row.iter().enumerate() {
-        if *code == 0 {
-            return Some(i + 1);
-        }
-    }
-    None
+    row.iter().position(|code| *code == 0)
 }

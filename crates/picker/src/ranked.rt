@@ -2,20 +2,13 @@
 ghost use Rattle.std.specs.Prelude.{◌≡◌, ◌≤◌, true, false, length, MatchResult};
 ghost use Rattle.std.specs.List.{AllByRecursion};
 ghost use Rattle.parts.specs.declared.refusals.Refusal.TheVariants.{NotAPicker};
-ghost use Rattle.picker.specs.Ranking.{times, each_once, ranks, first_open, ranked_picks};
+ghost use Rattle.picker.specs.Ranking.{times, ranks, open_in, first_open, ranked_picks};
 ghost use Rattle.picker.specs.RankedSound.{Within, ranked_sound};
 
 use crate::Picker;
 use parts::limits::MOST_PARTS;
-use parts::refusals::Refusal;
+use parts::refusals::{Refusal, Refused};
 use parts::{Mark, is_row};
-
-// Why no picker was made of the list, and the list as it was.
-#[derive(Drop)]
-pub struct Unranked {
-    pub refusal: Refusal,
-    pub list: Vec<Mark>,
-}
 
 // Picks the first open mark of a list that it owns, which names each part once.
 #[derive(Drop)]
@@ -26,13 +19,13 @@ pub struct Ranked {
 
 impl Ranked {
     // A picker of as many parts as the list has marks; each part is named once.
-    pub fn new(list: Vec<Mark>) -> Result<Ranked, Unranked>
-        ensures { MatchResult result (λ p. (ranks list.items ≡ true) × (p.list ≡ list)) (λ e. (ranks list.items ≡ false) × (e ≡ record { refusal = NotAPicker; list = list })) }
+    pub fn new(list: Vec<Mark>) -> Result<Ranked, Refused<Vec<Mark>>>
+        ensures { MatchResult result (λ p. (ranks list.items ≡ true) × (p.list ≡ list)) (λ e. (ranks list.items ≡ false) × (e ≡ record { refusal = NotAPicker; back = list })) }
     {
         if !is_ranked(&list) {
-            return Err(Unranked {
+            return Err(Refused {
                 refusal: Refusal::NotAPicker,
-                list,
+                back: list,
             });
         }
         Ok(Ranked { list })
@@ -42,8 +35,7 @@ impl Ranked {
     pub fn into_list(self) -> Vec<Mark>
         ensures { result ≡ self.list }
     {
-        let Ranked { list } = self;
-        list
+        self.list
     }
 }
 
@@ -56,6 +48,7 @@ impl Picker for Ranked {
         self.list.len()
     }
 
+    #[tactic(auto, using(crate::proofs::Ranks::row_within, crate::proofs::Ranks::first_picked))]
     fn pick(&self, row: &[u8]) -> Option<Mark> {
         if !is_row(row, self.list.len()) {
             return None;
@@ -68,28 +61,15 @@ impl Picker for Ranked {
 fn is_ranked(list: &[Mark]) -> bool
     ensures { result ≡ ranks list.now }
 {
-    if list.is_empty() || list.len() > MOST_PARTS {
-        return false;
-    }
-    for i in 0..list.len() {
-        if times_named(list, i + 1) != 1 {
-            return false;
-        }
-    }
-    true
+    let n = list.len();
+    1 <= n && n <= MOST_PARTS && (1..n + 1).all(|part| times_named(list, part) == 1)
 }
 
 // How many marks of the list name the part.
 fn times_named(list: &[Mark], part: usize) -> usize
     ensures { result ≡ times list.now part }
 {
-    let mut count = 0;
-    for mark in list {
-        if mark.part == part {
-            count += 1;
-        }
-    }
-    count
+    list.iter().filter(|mark| mark.part == part).count()
 }
 
 // The first mark of the list whose part is open in the row.
@@ -97,10 +77,13 @@ fn first_open(row: &[u8], list: &[Mark]) -> Option<Mark>
     requires { AllByRecursion (Within (length row.now)) list.now }
     ensures { result ≡ first_open row.now list.now }
 {
-    for mark in list {
-        if row[mark.part - 1] == 0 {
-            return Some(*mark);
-        }
-    }
-    None
+    list.iter().find(|mark| is_open(row, mark.part)).copied()
+}
+
+// Whether the part is open in the row.
+fn is_open(row: &[u8], part: usize) -> bool
+    requires { (1 ≤ part) × (part ≤ length row.now) }
+    ensures { result ≡ open_in row.now part }
+{
+    row[part - 1] == 0
 }

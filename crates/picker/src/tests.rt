@@ -61,6 +61,6 @@ fn each_refuses(rt: HostRuntime) -> Result<(), Fail> {
         return Err(Fail::new("part 1 is named twice"));
     };
     assert_eq!(rt; unranked.refusal, Refusal::NotAPicker);
-    assert_eq!(rt; unranked.list.len(), 2);
+    assert_eq!(rt; unranked.back.len(), 2);
     Ok(())
 }

@@ -1,5 +1,5 @@
 -- What a rule line, and a text, that were let through tell of the tables.
-use Rattle.std.proofs.Common.{◌≡◌, ◌+◌, ◌≤◌, true, eqb, List, [], ◌∷◌, ◌++◌, map, length, ℤ, pos, negsuc, nat_abs, Ok, sym, refl, ap, ◌∙◌, subst, arith}
+use Rattle.std.proofs.Common.{◌≡◌, ◌+◌, ◌≤◌, eqb, List, [], ◌∷◌, ◌++◌, map, length, ℤ, pos, negsuc, nat_abs, Ok, sym, refl, ap, ◌∙◌, subst, arith}
 use Rattle.std.proofs.lemmas.List.{append-nil, append_assoc, length_push}
 use Rattle.std.proofs.lemmas.Bool.{cond_both, eqb-true, eqb-false}
 use Rattle.std.specs.List.{AllByRecursion}
@@ -8,7 +8,7 @@ use Rattle.book.specs.Tables.{mark_from, number_from}
 use Rattle.grammar.specs.declared.Place.{Place}
 use Rattle.grammar.specs.declared.Room.{Room}
 use Rattle.grammar.specs.Pieces.{Piece}
-use Rattle.grammar.specs.Reading.{limit, is_empty, closed, rule_of}
+use Rattle.grammar.specs.Reading.{limit, closed, rule_of}
 use Rattle.grammar.proofs.Turns.{refused}
 use Rattle.grammar.proofs.Marks.{Taken}
 use Rattle.grammar.proofs.RuleLine.{step_rule}
@@ -20,7 +20,6 @@ pub record Stores (room : Room) (place : Place) (seen : Rule) (fs : List Piece) 
   pub goes_on : r ≡ seen ++ map mark_from (stored fs)
   pub small : AllByRecursion (λ z. nat_abs z ≤ room.n) (stored fs)
   pub fits : place.used + length seen ≤ limit room.marks → place.used + length r ≤ limit room.marks
-  pub entry : is_empty seen ≡ true → place.rule ≤ room.ends
 
 closes : (place : Place) (seen r : Rule) (fs : List Piece) → closed place seen fs ≡ Ok r → seen ≡ r
 closes place seen r [] e = cc
@@ -37,7 +36,6 @@ rule_stores room place seen (f ∷ fs) r e =
       goes_on = sym is ∙ sym (ap (λ zs. seen ++ map mark_from zs) none ∙ append-nil seen);
       small = subst (λ (zs : List ℤ). AllByRecursion (λ z. nat_abs z ≤ room.n) zs) (sym none) tt;
       fits = λ h. rw (← is) h;
-      entry = t.line;
     }
 
     goes : (z : ℤ) → Taken room place seen z → (nat_abs z ≡ 0 → ⊥) → stored (f ∷ fs) ≡ z ∷ stored fs → Stores room place (seen ++ mark_from z ∷ []) fs r → Stores room place seen (f ∷ fs) r
@@ -45,7 +43,6 @@ rule_stores room place seen (f ∷ fs) r e =
       goes_on = s.goes_on ∙ append_assoc seen (mark_from z ∷ []) (map mark_from (stored fs)) ∙ ap (λ zs. seen ++ map mark_from zs) (sym is);
       small = subst (λ (zs : List ℤ). AllByRecursion (λ z. nat_abs z ≤ room.n) zs) (sym is) (t.within, s.small);
       fits = λ h. s.fits (rw length_push (omega (arith, t.fits some)));
-      entry = t.line;
     }
 
 -- the numbers of a rule's marks are those on its line

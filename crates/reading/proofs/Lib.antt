@@ -1,10 +1,9 @@
 pub mod Runs
-pub mod Digits
+pub mod Counting
 pub mod RuleSteps
 pub mod BookSteps
-pub mod HeadSteps
 pub mod Fronts
 pub mod Stores
 pub mod Accepts
-pub mod FillSteps
 pub mod Replied
+pub mod FillSteps

@@ -15,6 +15,9 @@ use Rattle.grammar.proofs.Lines.{lines_of, lines_inline}
 use Rattle.grammar.proofs.RuleLines.{rules_to}
 use Rattle.grammar.proofs.Turns.{refused}
 use Rattle.reading.specs.Checks.{passed}
+use Rattle.reading.specs.Pieces.{all_lines, lines_left}
+use Rattle.reading.specs.declared.pieces.Lines.{Lines}
+use Rattle.reading.proofs.Counting.{rules_counting}
 use Rattle.reading.specs.Fills.{filled}
 use Rattle.reading.specs.Replies.{told, rules_in, LaysIt}
 
@@ -60,8 +63,9 @@ module _ (marks₀ : List ℤ) (ends₀ : List ℕ) (text : List ℕ) where
       )
 
 -- as many rules are read as the head tells
-pub all_read : (room : Room) (end m p : ℕ) (text : List ℕ) (rs : List Rule) → rules_of room end m 0 0 (lines p text) ≡ Ok rs → length rs ≡ m
-all_read room end m p text rs e = omega (arith, (rules_to room end m (lines p text) rs 0 0 (lines_inline _ _ (lines_of p text)) (omega arith) (omega arith) (omega arith) e).1.all)
+pub all_read : (room : Room) (end m : ℕ) (rs : List Rule) (lines : Lines) → rules_of room end m 0 0 (lines_left lines) ≡ Ok rs → length rs ≡ m
+all_read room end m rs lines e =
+    omega (arith, (rules_to room end m (all_lines lines) rs 0 0 (lines_inline _ _ (lines_of lines.at lines.rest.now)) (omega arith) (omega arith) (omega arith) (sym (rules_counting room end m (all_lines lines) 0 0) ∙ e)).1.all)
 
 -- a fault that is told is the text's
 pub fault_told : (x : Result Rules Fault) (f : Fault) → Err f ≡ told x → x ≡ Err f

@@ -1,5 +1,5 @@
 -- One field more of a rule line that is stored.
-use Rattle.std.proofs.Common.{◌≡◌, ℕ, ◌≤◌, List, [], ◌∷◌, ◌++◌, ℤ, pos, negsuc, nat_abs, Some, None, sym, refl, ap, ◌∙◌, subst, arith, w16, w32, SFits, of_z}
+use Rattle.std.proofs.Common.{◌≡◌, ℕ, List, [], ◌∷◌, ◌++◌, ℤ, pos, negsuc, nat_abs, Some, None, sym, refl, ap, ◌∙◌, subst, arith, w32, SFits, of_z}
 use Rattle.std.proofs.lemmas.Bool.{eq-eqb, ne_eqb}
 use Rattle.grammar.specs.Numbers.{signed}
 use Rattle.grammar.specs.Pieces.{Piece}
@@ -27,7 +27,3 @@ goes_all whole entry used left table k e g before all more f = subst (λ (xs : L
 pub bits_zero : (z : ℤ) → SFits w32 z → of_z w32 z ≡ 0 → nat_abs z ≡ 0
 bits_zero (pos n) s h = h
 bits_zero (negsuc n) s h = absurd (omega (arith, s.sfits))
-
-pub short : (z : ℤ) → nat_abs z ≤ 120 → SFits w16 z
-short (pos n) h = record { sfits = omega arith }
-short (negsuc n) h = record { sfits = omega arith }

@@ -1,13 +1,7 @@
--- How the first pass speaks of a rule that it reads.
-use Rattle.std.specs.Prelude.{◌≡◌, ℕ, ◌≤◌, false, List, length, Ok, Err, Result, slice_index_or}
+-- How the first pass speaks of the rules that it reads.
+use Rattle.std.specs.Prelude.{ℕ, List, length, Ok, Err, Result}
 use Rattle.parts.specs.declared.refusals.Fault.{Fault}
-use Rattle.book.specs.Meaning.{Rule, names}
-use Rattle.reading.specs.declared.seen.Seen.{Seen}
-
--- the parts that these marks name, and how many they are
-pub record Shows (seen : Seen) (marks : Rule) : Type 0 where
-  pub count_is : seen.count ≡ length marks
-  pub names_are : (p : ℕ) → p ≤ 120 → slice_index_or seen.named p false ≡ names marks p
+use Rattle.book.specs.Meaning.{Rule}
 
 -- how many marks a rule has that was read
 abbrev pub count_of : Result Rule Fault → Result ℕ Fault

@@ -2,9 +2,10 @@
 use Rattle.std.specs.Prelude.{◌≡◌, ℕ, ◌+◌, ◌≤◌, cond, List, [], ◌∷◌, ◌++◌, length, take, drop, ℤ, Some, None, Ok, Option, ◌==◌, unsigned_abs}
 use Rattle.book.specs.Meaning.{Rule}
 use Rattle.grammar.specs.Numbers.{signed}
-use Rattle.grammar.specs.Pieces.{Piece, lines}
+use Rattle.grammar.specs.Pieces.{Piece}
 use Rattle.grammar.specs.Reading.{rules_of}
 use Rattle.reading.specs.declared.head.Head.{Head}
+use Rattle.reading.specs.Pieces.{lines_left, text_end}
 
 -- a table with these entries in its front, and the others as before
 abbrev pub filled : {X : Type 0} → List X → List X → List X
@@ -27,5 +28,5 @@ stored [] = []
 stored (f ∷ fs) = stored_after (signed f.bytes) (stored fs)
 
 -- the lines after the head read as these rules, where the tables have so many entries
-abbrev pub ReadsOn : List ℕ → Head → ℕ → ℕ → List Rule → Type 0
-ReadsOn text h marks ends rs = rules_of (record { n = h.size.n; marks = marks; ends = ends }) (length text) h.size.m 0 0 (lines h.next (drop h.next text)) ≡ Ok rs
+abbrev pub ReadsOn : Head → ℕ → ℕ → List Rule → Type 0
+ReadsOn h marks ends rs = rules_of (record { n = h.size.n; marks = marks; ends = ends }) (text_end h.rules) h.size.m 0 0 (lines_left h.rules) ≡ Ok rs

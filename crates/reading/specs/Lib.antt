@@ -1,6 +1,9 @@
-pub mod Spans
+pub mod Pieces
+pub mod Sizes
 pub mod Checks
 pub mod Heads
+pub mod Rests
+pub mod Named
 pub mod Fills
 pub mod Replies
 pub mod Loads

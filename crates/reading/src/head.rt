@@ -1,139 +1,108 @@
 // The head of a text: "p cnf N M" on the first line that counts.
-ghost use Rattle.std.specs.Prelude.{◌≡◌, ℕ, ◌+◌, ◌-◌, ◌<◌, ◌≤◌, [], ◌∷◌, length, IfOk, Some, MatchOption, MatchResult};
-ghost use Rattle.std.specs.List.{between};
+ghost use Rattle.std.specs.Prelude.{◌≡◌, ◌≤◌, ◌&&◌, length, codes, IfOk, MatchOption, MatchResult};
 ghost use Rattle.std.specs.Str.{bytes_eq};
-ghost use Rattle.grammar.specs.Pieces.{fields, lines};
-ghost use Rattle.grammar.specs.Reading.{sized, head_of, from_head};
-ghost use Rattle.reading.specs.Heads.{IsNoHead, FourFields, Begins, Fails, InRange};
+ghost use Rattle.grammar.specs.Numbers.{number as number_in};
+ghost use Rattle.grammar.specs.Pieces.{counted};
+ghost use Rattle.grammar.specs.Reading.{sized, head_of};
+ghost use Rattle.reading.specs.Sizes.{InRange};
 
+use crate::fault;
 use crate::numbers::number;
-use crate::pieces::{Class, Span, first_field, next_field, run_end};
+use crate::pieces::{Fields, Lines, Piece};
 use grammar::Size;
 use parts::limits::{MOST_PARTS, MOST_TEXT_RULES};
 use parts::refusals::{Fault, Refusal};
 
-// A head, and where the lines after it start.
+// A head, and the lines after it, which tell the rules.
 #[derive(Clone, Copy)]
-pub(crate) struct Head {
+pub(crate) struct Head<'a> {
     pub(crate) size: Size,
-    pub(crate) next: usize,
+    pub(crate) rules: Lines<'a>,
+    ghost range: { InRange size },
 }
 
 // The fields of a head.
 #[derive(Clone, Copy)]
-pub(crate) struct HeadFields {
-    pub(crate) p: Span,
-    pub(crate) cnf: Span,
-    pub(crate) n: Span,
-    pub(crate) m: Span,
+pub(crate) struct HeadFields<'a> {
+    pub(crate) p: Piece<'a>,
+    pub(crate) cnf: Piece<'a>,
+    pub(crate) n: Piece<'a>,
+    pub(crate) m: Piece<'a>,
 }
 
-// The bytes of a field.
-fn field_bytes<'a>(line: &'a [u8], span: Span) -> &'a [u8]
-    requires { (span.start ≤ span.end) × (span.end ≤ length line.now) }
-    ensures { result.now ≡ between span.start span.end line.now }
-{
-    let start = span.start;
-    let end = span.end;
-    &line[start..end]
-}
+impl<'a> HeadFields<'a> {
+    ghost use Rattle.reading.specs.Pieces.{fields_left};
+    ghost use Rattle.reading.specs.Heads.{IsNoHead, FourFields};
 
-// The line's four fields, where it has just four.
-fn four_fields(line: &[u8]) -> Option<HeadFields>
-    ensures { MatchOption result (IsNoHead line.now) (FourFields line.now) }
-{
-    let p = next_field(line, 0)?;
-    let cnf = next_field(line, p.end)?;
-    let n = next_field(line, cnf.end)?;
-    let m = next_field(line, n.end)?;
-    if next_field(line, m.end).is_some() {
-        return None;
-    }
-    Some(HeadFields { p, cnf, n, m })
-}
-
-// Whether the bytes are this word.
-fn says(bytes: &[u8], word: &[u8]) -> bool
-    ensures { result ≡ bytes_eq bytes.now word.now }
-{
-    bytes == word
-}
-
-// The size, if a book may have it; `at_n` and `at_m` are where its two fields start in the line from `from`.
-fn size_in_range(n: u32, m: u32, from: usize, at_n: usize, at_m: usize) -> Result<Size, Fault>
-    requires { (from + at_n ≤ 60000) × (from + at_m ≤ 60000) }
-    ensures value { result ≡ sized from at_n at_m (Some n) (Some m) }
-    ensures range { IfOk result InRange }
-{
-    if n == 0 || n as usize > MOST_PARTS {
-        return Err(Fault {
-            refusal: Refusal::SizeOutOfRange,
-            byte: from + at_n,
-            rule: 0,
-        });
-    }
-    if m as usize > MOST_TEXT_RULES {
-        return Err(Fault {
-            refusal: Refusal::SizeOutOfRange,
-            byte: from + at_m,
-            rule: 0,
-        });
-    }
-    Ok(Size {
-        n: n as usize,
-        m: m as usize,
-    })
-}
-
-// The size that the head on the line tells; the line starts at `from`.
-fn head_size(line: &[u8], from: usize) -> Result<Size, Fault>
-    requires { from + length line.now ≤ 60000 }
-    ensures value { result ≡ head_of from (fields 0 line.now) }
-    ensures range { IfOk result InRange }
-{
-    let no_head = Fault {
-        refusal: Refusal::NoHead,
-        byte: from,
-        rule: 0,
-    };
-    let Some(head) = four_fields(line) else {
-        return Err(no_head);
-    };
-    let named = says(field_bytes(line, head.p), b"p") && says(field_bytes(line, head.cnf), b"cnf");
-    if !named {
-        return Err(no_head);
-    }
-    let Some(n) = number(field_bytes(line, head.n)) else {
-        return Err(no_head);
-    };
-    let Some(m) = number(field_bytes(line, head.m)) else {
-        return Err(no_head);
-    };
-    size_in_range(n, m, from, head.n.start, head.m.start)
-}
-
-// The head of the text, or the fault that keeps it from being one.
-pub(crate) fn read_head(text: &[u8]) -> Result<Head, Fault>
-    requires { length text.now ≤ 60000 }
-    ensures value { MatchResult result (Begins text.now) (Fails text.now) }
-    ensures range { IfOk result (λ h. InRange h.size) }
-{
-    let mut at = 0;
-    while at < text.len() {
-        let end = run_end(text, at, Class::Inline);
-        let line = &text[at..end];
-        if let Some(_) = first_field(line) {
-            let size = head_size(line, at)?;
-            return Ok(Head {
-                size,
-                next: end + 1,
-            });
+    // The four fields, where there are just four.
+    fn of(fields: Fields<'a>) -> Option<HeadFields<'a>>
+        ensures { MatchOption result (IsNoHead (fields_left fields.entry)) (FourFields (fields_left fields.entry)) }
+    {
+        let mut left = fields;
+        let head = HeadFields {
+            p: left.next()?,
+            cnf: left.next()?,
+            n: left.next()?,
+            m: left.next()?,
+        };
+        match left.next() {
+            Some(_) => None,
+            None => Some(head),
         }
-        at = end + 1;
     }
-    Err(Fault {
-        refusal: Refusal::NoHead,
-        byte: text.len(),
-        rule: 0,
-    })
+
+    // Whether the first two fields are those of a head.
+    fn is_named(&self) -> bool
+        ensures { result ≡ (bytes_eq self.now.p.bytes.now (codes "p") && bytes_eq self.now.cnf.bytes.now (codes "cnf")) }
+    {
+        self.p.bytes == b"p".as_slice() && self.cnf.bytes == b"cnf".as_slice()
+    }
+}
+
+// The size that two fields of a line tell, if a book may have it.
+fn size_of(line: Piece<'_>, n: Piece<'_>, m: Piece<'_>) -> Result<Size, Fault>
+    ensures value { result ≡ sized line.entry.at n.entry.at m.entry.at (number_in n.entry.bytes.now) (number_in m.entry.bytes.now) }
+    ensures range { IfOk result InRange }
+{
+    let (Some(parts), Some(rules)) = (number(n.bytes), number(m.bytes)) else {
+        return Err(fault(Refusal::NoHead, line.at, 0));
+    };
+    if parts == 0 || parts > MOST_PARTS {
+        return Err(fault(Refusal::SizeOutOfRange, line.at + n.at, 0));
+    }
+    if rules > MOST_TEXT_RULES {
+        return Err(fault(Refusal::SizeOutOfRange, line.at + m.at, 0));
+    }
+    Ok(Size { n: parts, m: rules })
+}
+
+// The size that the head on the line tells.
+fn head_size(line: Piece<'_>) -> Result<Size, Fault>
+    ensures value { result ≡ head_of line.entry.at (counted line.entry.bytes.now) }
+    ensures range { IfOk result InRange }
+{
+    let Some(head) = HeadFields::of(line.fields()) else {
+        return Err(fault(Refusal::NoHead, line.at, 0));
+    };
+    if !head.is_named() {
+        return Err(fault(Refusal::NoHead, line.at, 0));
+    }
+    size_of(line, head.n, head.m)
+}
+
+impl<'a> Head<'a> {
+    ghost use Rattle.reading.specs.Heads.{Begins, Fails};
+
+    // The head of the text, or the fault that keeps it from being one.
+    pub(crate) fn read(text: &'a [u8]) -> Result<Head<'a>, Fault>
+        requires { length text.now ≤ 60000 }
+        ensures { MatchResult result (Begins text.now) (Fails text.now) }
+    {
+        let mut lines = Lines::of(text);
+        let Some(line) = lines.next() else {
+            return Err(fault(Refusal::NoHead, text.len(), 0));
+        };
+        let size = head_size(line)?;
+        Ok(Head { size, rules: lines })
+    }
 }

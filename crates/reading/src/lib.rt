@@ -8,7 +8,7 @@ ghost use Rattle.grammar.specs.Reading.{read_of};
 ghost use Rattle.reading.specs.Fills.{filled};
 ghost use Rattle.reading.specs.Replies.{told, rules_in, LaysIt};
 
-use grammar::{Room, Size};
+use grammar::Size;
 use parts::limits::MOST_TEXT_BYTES;
 use parts::refusals::{Fault, Refusal};
 
@@ -18,11 +18,20 @@ mod head;
 pub mod loading;
 mod numbers;
 mod pieces;
-mod seen;
 
-use checking::check_rules;
 use filling::fill;
-use head::read_head;
+use head::Head;
+
+// A fault at a byte; before the first rule, the rule is 0.
+fn fault(refusal: Refusal, byte: usize, rule: usize) -> Fault
+    ensures { result ≡ record { refusal = refusal; byte = byte; rule = rule } }
+{
+    Fault {
+        refusal,
+        byte,
+        rule,
+    }
+}
 
 // Reads the text of a book: its marks into one table, where each rule's marks end into the other, and tells its size.
 // A refused text leaves both tables as they were; entries past those that are filled stay as they were too.
@@ -34,19 +43,10 @@ pub fn read(text: &[u8], marks: &mut [i16], ends: &mut [u16]) -> Result<Size, Fa
     ensures lays { IfOk result (LaysIt (read_of (length marks.old) (length ends.old) text.now) marks.new ends.new) }
 {
     if text.len() > MOST_TEXT_BYTES {
-        return Err(Fault {
-            refusal: Refusal::TextTooLong,
-            byte: MOST_TEXT_BYTES,
-            rule: 0,
-        });
+        return Err(fault(Refusal::TextTooLong, MOST_TEXT_BYTES, 0));
     }
-    let head = read_head(text)?;
-    let room = Room {
-        n: head.size.n,
-        marks: marks.len(),
-        ends: ends.len(),
-    };
-    check_rules(text, head.next, head.size.m, room)?;
-    fill(text, head, marks, ends);
+    let head = Head::read(text)?;
+    head.check_rules(marks.len(), ends.len())?;
+    fill(head, marks, ends);
     Ok(head.size)
 }

@@ -36,13 +36,13 @@ impl From<Fault> for Unloaded {
 
 // The book that the text stands for.
 pub fn load(heap: Global, text: &[u8]) -> Result<TextBook, Unloaded>
-    ensures { MatchResult result (λ b. read_of 16000 4000 text.now ≡ Ok (laid_rules b.n b.rules b.marks.items b.ends.items)) (Refused text.now) }
+    ensures { MatchResult result (λ b. read_of 16000 4000 text.now ≡ Ok (laid_rules b.n b.rules b.tables.marks.items b.tables.ends.items)) (Refused text.now) }
 {
     let mut marks = vec![in heap; 0i16; MOST_TEXT_MARKS]?;
     let mut ends = vec![in heap; 0u16; MOST_TEXT_RULES]?;
     let size = read(text, &mut marks, &mut ends)?;
-    match TextBook::lay(size.n, size.m, Tables { marks, ends }) {
-        Ok(book) => Ok(book),
-        Err(_) => unreachable(),
-    }
+    let Ok(book) = TextBook::lay(size.n, size.m, Tables { marks, ends }) else {
+        unreachable();
+    };
+    Ok(book)
 }

@@ -6,23 +6,23 @@ ghost use Rattle.grammar.specs.Numbers.{number as number_in, signed as signed_in
 const MOST_DIGITS: usize = 5;
 
 // The number that the bytes write: 0, or a digit 1 to 9 and up to four more digits.
-pub(crate) fn number(bytes: &[u8]) -> Option<u32>
+pub(crate) fn number(bytes: &[u8]) -> Option<usize>
     ensures value { result ≡ number_in bytes.now }
     ensures small { IfSome result (λ v. v < 100000) }
 {
-    if bytes.len() == 0 || bytes.len() > MOST_DIGITS {
+    if bytes.is_empty() || bytes.len() > MOST_DIGITS {
         return None;
     }
     if bytes[0] == b'0' {
         return if bytes.len() == 1 { Some(0) } else { None };
     }
-    let mut value: u32 = 0;
+    let mut value = 0;
+    // Stays a for: nothing bounds the total of a try_fold, so it would need tests that cannot fail.
     for byte in bytes {
-        let b = *byte;
-        if b < b'0' || b > b'9' {
+        if !byte.is_ascii_digit() {
             return None;
         }
-        value = value * 10 + u32::from(b - b'0');
+        value = value * 10 + usize::from(*byte - b'0');
     }
     Some(value)
 }
@@ -32,11 +32,10 @@ pub(crate) fn signed(bytes: &[u8]) -> Option<i32>
     ensures value { result ≡ signed_in bytes.now }
     ensures small { IfSome result (λ z. unsigned_abs z < 100000) }
 {
-    if bytes.len() == 0 || bytes[0] != b'-' {
-        let value = number(bytes)?;
-        return Some(value as i32);
-    }
-    let value = number(&bytes[1..])?;
+    let [b'-', digits @ ..] = bytes else {
+        return Some(number(bytes)? as i32);
+    };
+    let value = number(digits)?;
     if value == 0 {
         return None;
     }

@@ -1,71 +1,152 @@
-// Where lines and fields begin and end.
-ghost use Rattle.std.specs.Prelude.{◌≡◌, ℕ, ◌+◌, ◌<◌, ◌≤◌, [], length, drop, MatchOption};
-ghost use Rattle.std.specs.List.{prefix_len};
-ghost use Rattle.grammar.specs.Pieces.{fields, counted};
-ghost use Rattle.reading.specs.Spans.{has, Spans};
+// The lines of a text that count, and the fields of a line, each with its place.
+ghost use Rattle.std.specs.Prelude.{◌≡◌, ◌+◌, ◌<◌, ◌≤◌, true, not, length};
+ghost use Rattle.std.specs.Iterator.{YieldsFirstBy, item_count};
+ghost use Rattle.grammar.specs.Pieces.{blank, goes_on, fields, lines, counted};
 
-// A field's first byte in its line, and the byte after its last.
+// A piece of a text: where it starts, and its bytes. A line starts in its text, and a field in its line.
 #[derive(Clone, Copy)]
-pub(crate) struct Span {
-    pub(crate) start: usize,
-    pub(crate) end: usize,
+pub(crate) struct Piece<'a> {
+    pub(crate) at: usize,
+    pub(crate) bytes: &'a [u8],
+    ghost short: { at + length bytes.now ≤ 60000 },
 }
 
-// Which bytes a run is made of.
+// The fields that are left of a line: where the next one starts, and the bytes from there on.
 #[derive(Clone, Copy)]
-pub(crate) enum Class {
-    // any but a line feed
-    Inline,
-    // spaces and tabs
-    Blank,
-    // any but spaces and tabs
-    Inner,
+pub(crate) struct Fields<'a> {
+    pub(crate) at: usize,
+    pub(crate) rest: &'a [u8],
+    ghost short: { at + length rest.now ≤ 60000 },
+    ghost begun: { 0 < length rest.now → goes_on rest.now ≡ true },
 }
 
-impl Class {
-    fn has(self, b: u8) -> bool
-        ensures { result ≡ has self b }
+// The lines that are left of a text, from a byte on.
+#[derive(Clone, Copy)]
+pub(crate) struct Lines<'a> {
+    pub(crate) at: usize,
+    pub(crate) rest: &'a [u8],
+    ghost short: { at + length rest.now ≤ 60000 },
+}
+
+// Whether a byte parts fields.
+fn is_blank(byte: u8) -> bool
+    ensures { result ≡ blank byte }
+{
+    byte == b' ' || byte == b'\t'
+}
+
+impl<'a> Piece<'a> {
+    ghost use Rattle.reading.specs.Pieces.{fields_left};
+
+    // The fields of a line that count: one that begins with c is a comment, and has none.
+    pub(crate) fn fields(self) -> Fields<'a>
+        ensures { fields_left result ≡ counted self.entry.bytes.now }
     {
-        match self {
-            Class::Inline => b != b'\n',
-            Class::Blank => b == b' ' || b == b'\t',
-            Class::Inner => b != b' ' && b != b'\t',
+        match self.bytes {
+            [b'c', ..] => Fields::of(0, b""),
+            bytes => Fields::of(0, bytes),
         }
     }
 }
 
-// Where the run of a class that starts at `at` ends.
-pub(crate) fn run_end(bytes: &[u8], at: usize, class: Class) -> usize
-    requires { at ≤ length bytes.now }
-    ensures value { result ≡ at + prefix_len (has class) (drop at bytes.now) }
-    ensures within { result ≤ length bytes.now }
-{
-    let mut i = at;
-    while i < bytes.len() && class.has(bytes[i]) {
-        i += 1;
+impl<'a> Fields<'a> {
+    ghost use Rattle.reading.specs.Pieces.{fields_left};
+
+    // The fields of bytes that start at `at`.
+    fn of(at: usize, bytes: &'a [u8]) -> Fields<'a>
+        requires { at + length bytes.now ≤ 60000 }
+        ensures { fields_left result ≡ fields at bytes.now }
+    {
+        let blanks = bytes.iter().take_while(|byte| is_blank(**byte)).count();
+        Fields {
+            at: at + blanks,
+            rest: &bytes[blanks..],
+        }
     }
-    i
 }
 
-// The next field of the line from `at` on.
-pub(crate) fn next_field(line: &[u8], at: usize) -> Option<Span>
-    requires { at ≤ length line.now }
-    ensures { MatchOption result (fields at (drop at line.now) ≡ []) (Spans line.now at) }
-{
-    let start = run_end(line, at, Class::Blank);
-    if start >= line.len() {
-        return None;
+impl<'a> Iterator for Fields<'a> {
+    type Item = Piece<'a>;
+
+    ghost use Rattle.reading.specs.Pieces.{piece_of, fields_left};
+
+    ghost next_gives = { YieldsFirstBy piece_of fields_left };
+
+    ghost remaining = { item_count fields_left };
+
+    fn next(&mut self) -> Option<Piece<'a>> {
+        if self.rest.is_empty() {
+            return None;
+        }
+        let len = self
+            .rest
+            .iter()
+            .take_while(|byte| !is_blank(**byte))
+            .count();
+        let (bytes, rest) = self.rest.split_at(len);
+        let field = Piece { at: self.at, bytes };
+        *self = Fields::of(self.at + len, rest);
+        Some(field)
     }
-    let end = run_end(line, start, Class::Inner);
-    Some(Span { start, end })
 }
 
-// The first field that counts: a line whose first byte is c has none.
-pub(crate) fn first_field(line: &[u8]) -> Option<Span>
-    ensures { MatchOption result (counted line.now ≡ []) (λ s. (counted line.now ≡ fields 0 line.now) × Spans line.now 0 s) }
-{
-    if line.len() > 0 && line[0] == b'c' {
-        return None;
+impl<'a> Lines<'a> {
+    ghost use Rattle.reading.specs.Pieces.{piece_of, all_lines, lines_left, text_end};
+    ghost use Rattle.std.specs.Prelude.{filter};
+    ghost use Rattle.reading.specs.Pieces.{counts};
+
+    // The lines of a text.
+    pub(crate) fn of(text: &'a [u8]) -> Lines<'a>
+        requires { length text.now ≤ 60000 }
+        ensures lines { lines_left result ≡ filter counts (lines 0 text.now) }
+        ensures end { text_end result ≡ length text.now }
+    {
+        Lines { at: 0, rest: text }
     }
-    next_field(line, 0)
+
+    // Where the text ends.
+    pub(crate) fn end(&self) -> usize
+        ensures { result ≡ text_end self.now }
+    {
+        self.at + self.rest.len()
+    }
+
+    // The next line, whether it counts or not.
+    fn next_line(&mut self) -> Option<Piece<'a>>
+        ensures line { YieldsFirstBy piece_of all_lines self.old result self.new }
+        ensures end { text_end self.new ≡ text_end self.old }
+    {
+        if self.rest.is_empty() {
+            return None;
+        }
+        let len = self.rest.iter().take_while(|byte| **byte != b'\n').count();
+        let (bytes, after) = self.rest.split_at(len);
+        let rest = match after {
+            [_feed, rest @ ..] => rest,
+            [] => after,
+        };
+        let line = Piece { at: self.at, bytes };
+        self.at += self.rest.len() - rest.len();
+        self.rest = rest;
+        Some(line)
+    }
+}
+
+impl<'a> Iterator for Lines<'a> {
+    type Item = Piece<'a>;
+
+    ghost use Rattle.reading.specs.Pieces.{piece_of, lines_left, text_end};
+
+    ghost next_gives = { λ s r t. YieldsFirstBy piece_of lines_left s r t × (text_end t ≡ text_end s) };
+
+    ghost remaining = { item_count lines_left };
+
+    fn next(&mut self) -> Option<Piece<'a>> {
+        while let Some(line) = self.next_line() {
+            if line.fields().next().is_some() {
+                return Some(line);
+            }
+        }
+        None
+    }
 }

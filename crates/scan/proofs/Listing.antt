@@ -1,27 +1,11 @@
--- The rules of a list, by the book's or the shelf's own answers.
+-- The rules of a list, by the shelf's own answers.
 use Rattle.std.proofs.Common.{◌≡◌, ℕ, zero, suc, List, [], ◌∷◌, map, length, get_or, Some, None, Option, sym, refl, ap, ◌∙◌}
 use Rattle.std.specs.List.{slice_get}
 use Rattle.std.specs.Option.{option_map}
 use Rattle.parts.specs.Rows.{row_marks}
 use Rattle.parts.specs.Lists.{at_place, then_at}
-use Rattle.book.specs.Meaning.{Rule, marks_of, mark_of}
 use Rattle.shelf.specs.Meaning.{Shelved, row_of, marks_of_place, mark_of_place}
 use Rattle.scan.specs.Scan.{rule_in, marks_in, mark_in}
-
-nth_book : (rs : List Rule) (i : ℕ) → then_at (slice_get (map Some rs) i) (λ o. o) ≡ slice_get rs i
-nth_book [] i = refl
-nth_book (r ∷ rs) zero = refl
-nth_book (r ∷ rs) (suc i) = nth_book rs i
-
-book_rule : (rs : List Rule) (i : ℕ) → rule_in (map Some rs) i ≡ at_place rs i
-book_rule rs zero = refl
-book_rule rs (suc i) = nth_book rs i
-
-pub book_marks : (rs : List Rule) (i : ℕ) → marks_of rs i ≡ marks_in (map Some rs) i
-book_marks rs i = ap (option_map length) (sym (book_rule rs i))
-
-pub book_mark : (rs : List Rule) (i k : ℕ) → mark_of rs i k ≡ mark_in (map Some rs) i k
-book_mark rs i k = ap (λ o. then_at o (λ r. at_place r k)) (sym (book_rule rs i))
 
 nth_shelf : (rows : List (Option (List ℕ))) (i : ℕ) → then_at (slice_get (map (option_map row_marks) rows) i) (λ o. o) ≡ option_map row_marks (get_or rows i None)
 nth_shelf [] i = refl

@@ -52,32 +52,30 @@ pub(crate) fn scan<R: RuleList>(list: &R, row: &[u8]) -> Found
     requires { (R.RuleList.listed list.now).n ≤ length row.now }
     ensures { result ≡ scan_of row.now 1 (R.RuleList.listed list.now).rules }
 {
-    let mut pressing = Found::Quiet;
-    'rules: for i in 0..list.count() {
-        let Some(marks) = list.marks(i + 1) else {
+    let mut pressing = None;
+    'rules: for rule in 1..=list.count() {
+        let Some(marks) = list.marks(rule) else {
             continue 'rules;
         };
-        let mut free: Option<Mark> = None;
-        'marks: for k in 0..marks {
-            let Some(m) = list.mark(i + 1, k + 1) else {
+        let mut free = None;
+        'marks: for place in 1..=marks {
+            let Some(mark) = list.mark(rule, place) else {
                 continue 'marks;
             };
-            let code = row[m.part - 1];
+            let code = row[mark.part - 1];
             if code == 0 {
                 if free.is_some() {
                     continue 'rules;
                 }
-                free = Some(m);
-            } else if code == m.side.code() {
+                free = Some(mark);
+            } else if code == u8::from(mark.side) {
                 continue 'rules;
             }
         }
-        let Some(m) = free else {
-            return Found::Broken(i + 1);
+        let Some(mark) = free else {
+            return Found::Broken(rule);
         };
-        if let Found::Quiet = pressing {
-            pressing = Found::Pressing(i + 1, m);
-        }
+        pressing = pressing.or(Some((rule, mark)));
     }
-    pressing
+    pressing.map_or(Found::Quiet, |(rule, mark)| Found::Pressing(rule, mark))
 }

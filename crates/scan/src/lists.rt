@@ -8,6 +8,7 @@ use parts::Mark;
 use shelf::Shelf;
 
 // A book's rules.
+// Stays beside the shelf's: a type could be both a book and a shelf, so each of the two lists needs a type of its own.
 #[derive(Clone, Copy)]
 pub struct BookRules<'a, B>(pub &'a B);
 

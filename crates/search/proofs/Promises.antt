@@ -1,13 +1,12 @@
 -- What the invariant promises of a state and of a run, and the promises after every list of calls.
-use Rattle.std.proofs.Common.{◌≡◌, ℕ, ◌+◌, ◌*◌, ◌^◌, ◌<◌, ◌≤◌, Bool, true, false, List, [], ◌∷◌, length, Some, None, Option, refl, true≢false, arith}
-use Rattle.parts.specs.declared.refusals.Refusal.{Refusal}
+use Rattle.std.proofs.Common.{◌≡◌, ℕ, ◌+◌, ◌*◌, ◌^◌, ◌<◌, ◌≤◌, true, false, List, [], ◌∷◌, length, Some, Option, arith}
 use Rattle.parts.specs.Lists.{at_place}
 use Rattle.book.specs.Meaning.{Rule}
 use Rattle.shelf.specs.Meaning.{Shelved}
 use Rattle.search.specs.declared.Reason.{Reason}
 use Rattle.search.specs.declared.Reason.TheVariants.{Shelf}
-use Rattle.search.specs.Machine.{Bench, Verdict, working, fits, none_fits, Machine, lesson, rule_at, is_told, run}
-use Rattle.search.specs.Calls.{opened, restarted, Call, hold, release, run_for, refuses, accepted, unless, call, calls}
+use Rattle.search.specs.Machine.{Bench, Verdict, working, Machine, lesson, rule_at, is_told, run}
+use Rattle.search.specs.Calls.{opened, restarted, Call, refuses, accepted, call, calls}
 use Rattle.search.specs.Law.{Choice, Meets, Obeys, Lawful, Stands, counted, budgets, Promised, SearchKeepsItsPromises}
 use Rattle.search.proofs.Invariant.{Final, Tells, Inv}
 use Rattle.search.proofs.Turn.{sound_length}
@@ -18,19 +17,15 @@ use Rattle.search.proofs.Keeping.{run_inv, run_used, calls_inv, opened_inv}
 abbrev pub bound : Bench → ℕ
 bound b = (b.book.n + 1) * 2 ^ b.book.n
 
--- where no verdict stands, turns and steps are below their bounds
-working_below : (b : Bench) (m : Machine) → Inv b m → Tells b m working → (m.turns < 2 ^ b.book.n) × (m.steps < bound b)
-working_below b m inv w =
+-- each promise of a state, by its verdict
+told_or_below : (b : Bench) (m : Machine) → Inv b m → (v : Verdict) → Tells b m v → Stands b m v × Final b m.turns m.steps × (is_told v ≡ false → m.steps < bound b)
+told_or_below b m inv working w =
     let n = b.book.n in
     let at : Reason → Option Rule = rule_at b.book.rules m.shelf.rows in
     let few : m.turns < 2 ^ n = omega (arith, w.0, worth_below n m.holds at m.trail inv.sound) in
-    (few, final_steps n m.turns m.steps (length m.trail) few w.1 (sound_length n m.holds at m.trail inv.sound))
-
--- each promise of a state, by its verdict
-told_or_below : (b : Bench) (m : Machine) → Inv b m → (v : Verdict) → Tells b m v → Stands b m v × Final b m.turns m.steps × (is_told v ≡ false → m.steps < bound b)
-told_or_below b m inv working w = let (t, s) = working_below b m inv w in (tt, (omega arith, omega arith), λ h. s)
-told_or_below b m inv fits w = (w.1, w.0, λ h. absurd (true≢false h))
-told_or_below b m inv (none_fits r) w = (w.1, w.0, λ h. absurd (true≢false h))
+    let below = final_steps n m.turns m.steps (length m.trail) few w.1 (sound_length n m.holds at m.trail inv.sound) in
+    (tt, (omega arith, omega arith), λ h. below)
+told_or_below b m inv v w = grind arith
 
 -- every full choice that meets the book's rules meets each lesson
 pub inv_lessons : {b : Bench} {m : Machine} → Inv b m → (i : ℕ) (r : Rule) → lesson (at_place m.shelf.rows i) ≡ Some r → (f : Choice) → Obeys b.book.rules f → Meets f r
@@ -52,17 +47,9 @@ inv_steps {b} {m} inv = (told_or_below b m inv m.verdict inv.tells).1.1
 pub inv_below : {b : Bench} {m : Machine} → Inv b m → is_told m.verdict ≡ false → m.steps < bound b
 inv_below {b} {m} inv = (told_or_below b m inv m.verdict inv.tells).2
 
--- a trail has at most one entry for each part
-pub inv_trail : {b : Bench} {m : Machine} → Inv b m → length m.trail ≤ b.book.n
-inv_trail {b} {m} inv = sound_length b.book.n m.holds (rule_at b.book.rules m.shelf.rows) m.trail inv.sound
-
 -- a run whose budget reaches the bound ends told
 pub run_told : {b : Bench} {s : Shelved} {m : Machine} → Lawful b s → Inv b m → (k : ℕ) → bound b ≤ m.steps + k → is_told (run b k m).verdict ≡ true
-run_told {b} {s} {m} law inv k h = go (is_told (run b k m).verdict) refl
-  where
-    go : (v : Bool) → is_told (run b k m).verdict ≡ v → v ≡ true
-    go true e = refl
-    go false e = absurd (omega (arith, h, (run_used b k m e).1, inv_below (run_inv law inv k) e))
+run_told {b} {s} {m} law inv k h = grind (arith, run_used b k m, inv_below (run_inv law inv k))
 
 -- while no verdict stands, all that was given is used
 abbrev pub Used : Machine → ℕ → Type 0
@@ -71,15 +58,7 @@ Used m given = is_told m.verdict ≡ false → given ≤ m.steps
 -- a call counts what it is given
 pub call_used : (b : Bench) (c : Call) (m : Machine) (g : ℕ) → Used m g → Used (call b c m) (counted c (refuses b m c) g)
 unfolding call accepted restarted
-call_used b c m g used = go c (refuses b m c)
-  where
-    go : (c : Call) (o : Option Refusal) → Used (unless o m (accepted b c m)) (counted c o g)
-    go (hold p s) None = λ h. omega arith
-    go (hold p s) (Some why) = used
-    go (release p) None = λ h. omega arith
-    go (release p) (Some why) = used
-    go (run_for k) None = λ h. let (a, e) = run_used b k m h in omega (arith, used a, e)
-    go (run_for k) (Some why) = used
+call_used b c m g used = grind (arith, run_used b)
 
 calls_used : (b : Bench) (cs : List Call) (m : Machine) (g : ℕ) → Used m g → Used (calls b cs m) (budgets b cs m g)
 unfolding calls budgets
@@ -94,12 +73,8 @@ inv_promised {b} {m} inv given used =
       verdict = inv_verdict inv;
       turns = inv_turns inv;
       steps = inv_steps inv;
-      told = λ h. go h (is_told m.verdict) refl;
+      told = λ h. grind (arith, used, inv_below inv);
     }
-  where
-    go : bound b ≤ given → (v : Bool) → is_told m.verdict ≡ v → v ≡ true
-    go h true e = refl
-    go h false e = absurd (omega (arith, h, used e, inv_below inv e))
 
 -- THE LAW
 pub search_keeps_its_promises : SearchKeepsItsPromises

@@ -2,6 +2,7 @@
 #![tactic(auto)]
 
 ghost use Rattle.std.specs.Prelude.{◌≡◌, length};
+ghost use Rattle.search.specs.Machine.{reason_in};
 ghost use Rattle.search.specs.Law.{SearchKeepsItsPromises, CallsLeaveTheRest};
 ghost use Rattle.search.specs.Table.{table, CasesHold};
 ghost use Rattle.search.specs.Histories.{histories, HistoriesHold};
@@ -9,29 +10,43 @@ ghost use Rattle.search.specs.Histories.{histories, HistoriesHold};
 use parts::Mark;
 
 // Why a part is forced (its antecedent clause): a rule of the book, or a place on the shelf; both count from 1.
-#[derive(Clone, Copy, Debug)]
+#[derive(Clone, Copy, Debug, PartialEq, Eq)]
 pub enum Reason {
     Book(usize),
     Shelf(usize),
 }
 
 // How a part came to be settled: held (assumed), picked (decided), or forced (implied).
-#[derive(Clone, Copy, Debug)]
+// The default, as that of an entry, only fills what a table has not used yet.
+#[derive(Clone, Copy, Debug, Default, PartialEq, Eq)]
 pub enum Kind {
+    #[default]
     Held,
     Picked,
     Forced(Reason),
 }
 
+impl Kind {
+    // The reason of what is forced.
+    pub fn reason(self) -> Option<Reason>
+        ensures { result ≡ reason_in self }
+    {
+        match self {
+            Kind::Forced(reason) => Some(reason),
+            Kind::Held | Kind::Picked => None,
+        }
+    }
+}
+
 // An entry of the trail: a settled part on its side, and how it came there.
-#[derive(Clone, Copy, Debug)]
+#[derive(Clone, Copy, Debug, Default, PartialEq, Eq)]
 pub struct Entry {
     pub mark: Mark,
     pub kind: Kind,
 }
 
 // Which lessons are let go at the end of a turn (clause deletion). With s marks, u of them open, a lesson goes:
-#[derive(Clone, Copy, Debug)]
+#[derive(Clone, Copy, Debug, PartialEq, Eq)]
 pub enum Forgetting {
     // never
     KeepAll,
@@ -46,7 +61,7 @@ pub enum Forgetting {
 }
 
 // What a run tells: that a choice fits, that none fits, or that its budget is spent before a verdict.
-#[derive(Clone, Copy, Debug)]
+#[derive(Clone, Copy, Debug, PartialEq, Eq)]
 pub enum Told {
     Fits,
     NoneFits,
@@ -54,7 +69,7 @@ pub enum Told {
 }
 
 // The reply of a run: what it tells, and the steps and turns since the opening or the last accepted hold or release.
-#[derive(Clone, Copy, Debug)]
+#[derive(Clone, Copy, Debug, PartialEq, Eq)]
 pub struct Report {
     pub told: Told,
     pub steps: usize,

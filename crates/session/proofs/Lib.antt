@@ -1,3 +1,4 @@
+pub mod Clearing
 pub mod Answering
 pub mod Looking
 pub mod Machines

@@ -1,2 +1,3 @@
+pub mod Standing
 pub mod View
 pub mod Moving

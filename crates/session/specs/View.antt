@@ -1,25 +1,21 @@
 -- What a session stands for: the bench it was opened with, and the machine's state.
-use Rattle.std.specs.Prelude.{◌≡◌, ℕ, List, [], ◌∷◌, ◌++◌, length, take, replicate, Some, None, Ok, Err, Result}
+use Rattle.std.specs.Prelude.{◌≡◌, ℕ, ◌<◌, cond, Option, ◌==◌, List, [], ◌∷◌, ◌++◌, length, replicate, Some, None, Ok, Err, Result}
 use Rattle.parts.specs.declared.refusals.Refusal.{Refusal}
+use Rattle.parts.specs.declared.refusals.Refused.{Refused}
+use Rattle.parts.specs.declared.refusals.Refusal.TheVariants.{RowLength, NoSuchVerdict}
 use Rattle.book.specs.Meaning.{Rules}
 use Rattle.picker.specs.Meaning.{Picks}
 use Rattle.shelf.specs.Meaning.{Shelved}
 use Rattle.search.specs.declared.Forgetting.{Forgetting}
-use Rattle.search.specs.declared.Told.{Told}
-use Rattle.search.specs.declared.Told.TheVariants.{Fits, NoneFits, Spent}
 use Rattle.search.specs.Trail.{Row}
-use Rattle.search.specs.Machine.{Bench, Machine, Verdict, working, fits, none_fits}
+use Rattle.search.specs.Machine.{Bench, Machine}
 use Rattle.search.specs.Calls.{Call, refuses_open, opened, calls}
 use Rattle.search.specs.Law.{Lawful, Promised, budgets}
 use Rattle.session.specs.declared.Session.{Session}
-use Rattle.session.specs.declared.opening.Unopened.{Unopened}
+use Rattle.session.specs.Standing.{verdict_of}
+use Rattle.session.specs.declared.verdict.Verdict.TheVariants.{Working}
 use Rattle.holds.specs.Holding.{holds_of}
 use Rattle.trail.specs.Stacks.{trail_of}
-
-abbrev pub verdict_of : ℕ → Told → List ℕ → Verdict
-verdict_of n Fits named = fits
-verdict_of n NoneFits named = none_fits (take n named)
-verdict_of n Spent named = working
 
 abbrev pub bench_of : {B P S : Type 0} → (B → Rules) → (P → Picks) → Session B P S → Bench
 bench_of book picker s = record { book = book s.book; picker = picker s.picker; forget = s.forget }
@@ -33,8 +29,12 @@ machine_of book shelf s =
       last = s.last;
       steps = s.steps;
       turns = s.turns;
-      verdict = verdict_of (book s.book).n s.told s.named;
+      verdict = verdict_of (book s.book).n s.verdict;
     }
+
+-- no verdict stands, and one more step may be counted
+abbrev pub Going : {B P S : Type 0} → Session B P S → Type 0
+Going s = (s.verdict ≡ Working) × (s.steps < 50000000)
 
 -- book, picker and forgetting rule are as they were
 abbrev pub Kept : {B P S : Type 0} → Session B P S → Session B P S → Type 0
@@ -45,19 +45,23 @@ abbrev pub emptied : Shelved → Shelved
 emptied s = record { n = s.n; rows = replicate (length s.rows) None }
 
 -- What an opening gives: a session over the three, as the search opens, which the law then speaks of; or the first refusal, and all three as they were.
-abbrev pub Opened : {B P S : Type 0} → (B → Rules) → (P → Picks) → (S → Shelved) → B → P → S → Forgetting → Result (Session B P S) (Unopened B P S) → Type 0
+abbrev pub Opened : {B P S : Type 0} → (B → Rules) → (P → Picks) → (S → Shelved) → B → P → S → Forgetting → Result (Session B P S) (Refused (B × P × S)) → Type 0
 Opened rules picks shelved b p s f (Ok t) =
     (refuses_open (rules b).n (picks p).n (shelved s).n f ≡ None)
     × (t.book ≡ b) × (t.picker ≡ p) × (t.forget ≡ f)
     × (machine_of rules shelved t ≡ opened (shelved s))
     × Lawful (bench_of rules picks t) (shelved s)
 Opened rules picks shelved b p s f (Err e) =
-    (refuses_open (rules b).n (picks p).n (shelved s).n f ≡ Some e.refusal) × (e.book ≡ b) × (e.picker ≡ p) × (e.shelf ≡ s)
+    (refuses_open (rules b).n (picks p).n (shelved s).n f ≡ Some e.refusal) × (e.back ≡ (b, p, s))
 
 -- a row that is filled, or left as it was
 abbrev pub filled : Result Row Refusal → Row → Row
 filled (Ok r) old = r
 filled (Err why) old = old
+
+-- the n codes that there are to show, into a row of some length
+abbrev pub shown : ℕ → Option Row → ℕ → Result Row Refusal
+shown n codes len = cond (len == n) (elim codes [ None ↦ Err NoSuchVerdict | Some row ↦ Ok row ]) (Err RowLength)
 
 abbrev pub done : Result Row Refusal → Result (Unit {0}) Refusal
 done (Ok r) = Ok tt

@@ -5,16 +5,17 @@ ghost use Rattle.session.specs.View.{bench_of, machine_of, Kept};
 ghost use Rattle.holds.specs.Holding.{holds_of};
 
 use crate::Session;
+use crate::verdict::Verdict;
 use book::Book;
 use parts::refusals::Refusal;
 use parts::{Mark, Side};
 use picker::Picker;
-use search::Told;
 use shelf::Shelf;
 use trail::Trail;
 
 impl<B: Book, P: Picker, S: Shelf> Session<B, P, S> {
     // Holds a part on the side of a code, 1 in or 2 out. The trail is emptied and the counts are 0; lessons stay.
+    // Stays a code: a caller may give any number, and a bad one gets its refusal.
     pub fn hold(&mut self, part: usize, code: u64) -> Result<(), Refusal>
         ensures answer { result ≡ reply_to (bench_of B.Book.meaning P.Picker.meaning self.old) (machine_of B.Book.meaning S.Shelf.meaning self.old) (held part code) }
         ensures after { machine_of B.Book.meaning S.Shelf.meaning self.new ≡ call (bench_of B.Book.meaning P.Picker.meaning self.old) (held part code) (machine_of B.Book.meaning S.Shelf.meaning self.old) }
@@ -23,9 +24,7 @@ impl<B: Book, P: Picker, S: Shelf> Session<B, P, S> {
         if self.no_part(part) {
             return Err(Refusal::PartOutOfRange);
         }
-        let Some(side) = Side::from_code(code) else {
-            return Err(Refusal::NoSide);
-        };
+        let side = Side::try_from(code)?;
         if !self.holds.add(Mark { part, side }) {
             return Err(Refusal::AlreadyHeld);
         }
@@ -58,7 +57,7 @@ impl<B: Book, P: Picker, S: Shelf> Session<B, P, S> {
         self.trail = Trail::empty();
         self.steps = 0;
         self.turns = 0;
-        self.told = Told::Spent;
+        self.verdict = Verdict::Working;
     }
 
     // Whether a number is no part's.

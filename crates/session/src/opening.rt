@@ -4,52 +4,39 @@ ghost use Rattle.search.specs.Calls.{in_range};
 ghost use Rattle.session.specs.View.{Opened, emptied};
 
 use crate::Session;
+use crate::verdict::Verdict;
 use book::Book;
 use holds::Holds;
 use parts::limits::MOST_PARTS;
-use parts::refusals::Refusal;
+use parts::refusals::{Refusal, Refused};
 use picker::Picker;
-use search::{Forgetting, Told};
+use search::Forgetting;
 use shelf::Shelf;
 use trail::Trail;
-
-// Why no session was opened, and all three as they were.
-#[derive(Drop)]
-pub struct Unopened<B, P, S> {
-    pub refusal: Refusal,
-    pub book: B,
-    pub picker: P,
-    pub shelf: S,
-}
 
 impl<B: Book, P: Picker, S: Shelf> Session<B, P, S> {
     // Opens a session: every place is cleared, nothing is held or settled, and nothing counted.
     pub fn open(
         book: B,
         picker: P,
-        shelf: S,
+        mut shelf: S,
         forget: Forgetting,
-    ) -> Result<Session<B, P, S>, Unopened<B, P, S>>
+    ) -> Result<Session<B, P, S>, Refused<(B, P, S)>>
         ensures { Opened B.Book.meaning P.Picker.meaning S.Shelf.meaning book picker shelf forget result }
     {
         let n = book.n();
         if n != picker.n() || n != shelf.n() {
-            return Err(Unopened {
+            return Err(Refused {
                 refusal: Refusal::OpenPartsDiffer,
-                book,
-                picker,
-                shelf,
+                back: (book, picker, shelf),
             });
         }
         if !in_range(forget) {
-            return Err(Unopened {
+            return Err(Refused {
                 refusal: Refusal::ForgettingOutOfRange,
-                book,
-                picker,
-                shelf,
+                back: (book, picker, shelf),
             });
         }
-        let mut shelf = shelf;
         clear_all(&mut shelf);
         Ok(Session {
             book,
@@ -61,8 +48,7 @@ impl<B: Book, P: Picker, S: Shelf> Session<B, P, S> {
             last: 0,
             steps: 0,
             turns: 0,
-            told: Told::Spent,
-            named: [0; 120],
+            verdict: Verdict::Working,
         })
     }
 
@@ -70,20 +56,7 @@ impl<B: Book, P: Picker, S: Shelf> Session<B, P, S> {
     pub fn close(self) -> (B, P, S)
         ensures { result ≡ (self.book, self.picker, self.shelf) }
     {
-        let Session {
-            book,
-            picker,
-            shelf,
-            forget: _,
-            holds: _,
-            trail: _,
-            last: _,
-            steps: _,
-            turns: _,
-            told: _,
-            named: _,
-        } = self;
-        (book, picker, shelf)
+        (self.book, self.picker, self.shelf)
     }
 }
 
@@ -104,7 +77,7 @@ fn in_range(forget: Forgetting) -> bool
 fn clear_all<S: Shelf>(shelf: &mut S)
     ensures { S.Shelf.meaning shelf.new ≡ emptied (S.Shelf.meaning shelf.old) }
 {
-    for i in 0..shelf.places() {
-        let _ = shelf.clear(i + 1);
+    for place in 1..=shelf.places() {
+        let _ = shelf.clear(place);
     }
 }

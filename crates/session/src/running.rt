@@ -5,10 +5,11 @@ ghost use Rattle.search.specs.Machine.{is_told};
 ghost use Rattle.session.specs.View.{bench_of, machine_of, Kept, PromisedAfter};
 
 use crate::Session;
+use crate::verdict::Verdict;
 use book::Book;
 use parts::refusals::Refusal;
 use picker::Picker;
-use search::{Report, Told};
+use search::Report;
 use shelf::Shelf;
 
 // The most steps that one run may be given.
@@ -31,7 +32,7 @@ impl<B: Book, P: Picker, S: Shelf> Session<B, P, S> {
         if !self.stands() && self.steps + budget > MOST_STEPS {
             return Err(Refusal::StepsOutOfRange);
         }
-        for i in 0..budget {
+        for _ in 0..budget {
             if self.stands() {
                 break;
             }
@@ -44,9 +45,6 @@ impl<B: Book, P: Picker, S: Shelf> Session<B, P, S> {
     fn stands(&self) -> bool
         ensures { result ≡ is_told (machine_of B.Book.meaning S.Shelf.meaning self.now).verdict }
     {
-        match self.told {
-            Told::Spent => false,
-            _ => true,
-        }
+        !matches!(self.verdict, Verdict::Working)
     }
 }

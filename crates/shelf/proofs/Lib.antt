@@ -2,5 +2,6 @@ mod Rows
 mod Walks
 mod Blocks
 mod Marks
+mod Named
 mod Listings
 pub mod Filling

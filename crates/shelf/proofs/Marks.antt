@@ -1,5 +1,7 @@
 -- Marks whose parts rise and the codes that they give: each from the other.
 use Rattle.std.proofs.Common.{◌≡◌, ℕ, zero, suc, ◌+◌, ◌*◌, ◌/◌, ◌%◌, ◌<◌, ◌≤◌, true, cond, eqb, leb, List, [], ◌∷◌, ◌++◌, map, length, get_or, take, Some, None, Option, sym, refl, ap, ◌∙◌, inl, inr, arith}
+use Rattle.std.specs.List.{find}
+use Rattle.std.specs.Option.{option_map, unwrap_or}
 use Rattle.std.proofs.lemmas.Nat.{div-mul-add, mod-mul-add}
 use Rattle.std.proofs.lemmas.List.{take_more, length-take-le, append-nil}
 use Rattle.std.proofs.lemmas.Bool.{and_parts, and_from, leb-true, le-leb, eq-eqb, ne_eqb, cases_eq, cond-true, cond-false}
@@ -32,15 +34,15 @@ code_at_part part (suc count) zero ms l = ap (code_in ms) (omega arith)
 code_at_part part (suc count) (suc i) ms l = code_at_part (suc part) count i ms (omega arith) ∙ ap (code_in ms) (omega arith)
 
 -- a code is that of its side, or 0
-side_back : (s : Side) → side_of (code_of s) ≡ Some s
+pub side_back : (s : Side) → side_of (code_of s) ≡ Some s
 side_back In = refl
 side_back Out = refl
 
 code_here : (m : Mark) (ms : List Mark) (p : ℕ) → m.part ≡ p → code_in (m ∷ ms) p ≡ code_of m.side
-code_here m ms p e = cond-true _ _ _ (eq-eqb _ _ e)
+code_here m ms p e = ap (λ o. unwrap_or (option_map (λ x. code_of x.side) o) 0) (cond-true _ (Some m) (find (λ x. eqb x.part p) ms) (eq-eqb _ _ e))
 
 code_past : (m : Mark) (ms : List Mark) (p : ℕ) → (m.part ≡ p → ⊥) → code_in (m ∷ ms) p ≡ code_in ms p
-code_past m ms p e = cond-false _ _ _ (ne_eqb _ _ e)
+code_past m ms p e = ap (λ o. unwrap_or (option_map (λ x. code_of x.side) o) 0) (cond-false _ (Some m) (find (λ x. eqb x.part p) ms) (ne_eqb _ _ e))
 
 -- a mark below all parts gives none of them a code
 codes_past : (m : Mark) (ms : List Mark) (p count : ℕ) → m.part < p → codes_by p count (m ∷ ms) ≡ codes_by p count ms
@@ -74,10 +76,10 @@ code_below p q n (m ∷ ms) l h =
     code_past m ms p (λ e. omega arith) ∙ code_below p (suc m.part) n ms (omega arith) r.more
 
 -- the marks come back from the codes that they give
-with_none : (c : ℕ) (p : ℕ) (ms : List Mark) → c ≡ 0 → with_mark (side_of c) p ms ≡ ms
+pub with_none : (c : ℕ) (p : ℕ) (ms : List Mark) → c ≡ 0 → with_mark (side_of c) p ms ≡ ms
 with_none c p ms e = ap (λ x. with_mark (side_of x) p ms) e
 
-with_side : (s : Side) (c p : ℕ) (ms : List Mark) → c ≡ code_of s → with_mark (side_of c) p ms ≡ record { part = p; side = s } ∷ ms
+pub with_side : (s : Side) (c p : ℕ) (ms : List Mark) → c ≡ code_of s → with_mark (side_of c) p ms ≡ record { part = p; side = s } ∷ ms
 with_side s c p ms e = ap (λ x. with_mark (side_of x) p ms) e ∙ ap (λ o. with_mark o p ms) (side_back s)
 
 marks_back_at : (p n count : ℕ) (ms : List Mark) → p + count ≡ suc n → rises p n ms ≡ true → marks_from p (codes_by p count ms) ≡ ms
@@ -99,11 +101,11 @@ pub marks_back : (n : ℕ) (ms : List Mark) → rises 1 n ms ≡ true → row_ma
 marks_back n ms h = marks_back_at 1 n n ms (omega arith) h
 
 -- a row's marks rise, and give its codes back
-data Known (c : ℕ) : Type 0 where
+pub data Known (c : ℕ) : Type 0 where
   none : c ≡ 0 → Known c
   on : (s : Side) → c ≡ code_of s → Known c
 
-known : (c : ℕ) → leb c 2 ≡ true → Known c
+pub known : (c : ℕ) → leb c 2 ≡ true → Known c
 known c h =
     let l = leb-true c 2 h in
     elim (cases_eq c 0) [ inl e ↦ none e | inr e ↦ elim (cases_eq c 1) [ inl f ↦ on In f | inr f ↦ on Out (omega arith) ] ]

@@ -1,10 +1,11 @@
 -- A shelf's rows: what one that is there keeps, what is told outside, and one row put in another's place.
-use Rattle.std.proofs.Common.{◌≡◌, ℕ, zero, suc, ◌-◌, ◌≤◌, Bool, true, false, List, [], ◌∷◌, length, get_or, set, Some, None, Option, refl, ap, ◌∙◌, arith}
+use Rattle.std.proofs.Common.{◌≡◌, ℕ, zero, suc, ◌≤◌, Bool, true, false, List, [], ◌∷◌, length, get_or, set, Some, None, Ok, Err, Result, refl, arith, subst}
+use Rattle.std.specs.Result.{MatchResult, result_ok}
 use Rattle.std.proofs.lemmas.List.{get_or_past}
 use Rattle.std.proofs.lemmas.Bool.{and_parts, and_from, le-leb, eqb-true}
 use Rattle.std.proofs.lemmas.Bool.Decides.{nat_tests}
 use Rattle.parts.specs.Codes.{is_row}
-use Rattle.shelf.specs.Meaning.{Shelved, Sound, every, sound_place, within, row_of, put}
+use Rattle.shelf.specs.Meaning.{Shelved, Sound, every, sound_place, within, row_of}
 
 module _ {X : Type 0} (f : X → Bool) where
   pub every_at : (xs : List X) (k : ℕ) (d : X) → f d ≡ true → every f xs ≡ true → f (get_or xs k d) ≡ true
@@ -35,6 +36,18 @@ row_sound s ok (suc i) row e =
 pub row_length : (n : ℕ) (row : List ℕ) → is_row n row ≡ true → length row ≡ n
 row_length n row ok = eqb-true (length row) n (and_parts _ _ ok).0
 
--- one place changed leaves each row a row
-pub put_sound : (s s' : Shelved) (place : ℕ) (o : Option (List ℕ)) → s' ≡ put s place o → sound_place s.n o ≡ true → every (sound_place s.n) s.rows ≡ true → every (sound_place s.n) s'.rows ≡ true
-put_sound s s' place o e ok h = ap (λ m. every (sound_place s.n) m.rows) e ∙ every_set (sound_place s.n) s.rows (place - 1) o ok h
+-- what was told of an answer, where its refusal is dropped
+module _ {T E : Type 0} (P : T → Type 0) (Q : E → Type 0) (r : Result T E) (told : MatchResult r P Q) where
+  pub done_told : {x : T} → Some x ≡ result_ok r → P x
+  done_told {x} h = at r told h
+    where
+      at : (r : Result T E) → MatchResult r P Q → Some x ≡ result_ok r → P x
+      at (Ok y) m h = let z : y ≡ x = cc in subst P z m
+      at (Err e) m h = let z : ◌≡◌ {A = ℕ} 0 1 = cc in absurd (omega arith)
+
+  pub refused_told : None ≡ result_ok r → (e : E) × Q e
+  refused_told h = at r told h
+    where
+      at : (r : Result T E) → MatchResult r P Q → None ≡ result_ok r → (e : E) × Q e
+      at (Ok y) m h = let z : ◌≡◌ {A = ℕ} 0 1 = cc in absurd (omega arith)
+      at (Err e) m h = (e, m)

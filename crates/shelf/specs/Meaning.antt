@@ -1,7 +1,8 @@
 -- What a shelf means: n parts, and for each place a row of n codes or nothing (a store of learned clauses).
-use Rattle.std.specs.Prelude.{◌≡◌, ℕ, zero, suc, ◌-◌, ◌≤◌, Bool, true, cond, ◌&&◌, List, [], ◌∷◌, length, Some, None, Ok, Err, Option, Result, nat_le, slice_index, slice_index_or, slice_set}
-use Rattle.parts.specs.Lists.{at_place, then_at}
+use Rattle.std.specs.Prelude.{◌≡◌, ℕ, zero, suc, ◌-◌, ◌≤◌, Bool, true, cond, ◌&&◌, List, length, Some, None, Ok, Err, Option, Result, nat_le, slice_index, slice_index_or, slice_set}
+use Rattle.std.specs.List.{list_all}
 use Rattle.std.specs.Option.{option_map}
+use Rattle.parts.specs.Lists.{at_place, then_at}
 use Rattle.parts.specs.declared.Mark.{Mark}
 use Rattle.parts.specs.declared.refusals.Refusal.{Refusal}
 use Rattle.parts.specs.declared.refusals.Refusal.TheVariants.{ShelfOutOfRange}
@@ -14,8 +15,7 @@ pub record Shelved : Type 0 where
 
 -- whether a test holds of each
 abbrev pub every : {X : Type 0} → (X → Bool) → List X → Bool
-every f [] = true
-every f (x ∷ xs) = f x && every f xs
+every f xs = list_all f xs
 
 -- a place is empty or holds a row
 abbrev pub sound_place : ℕ → Option (List ℕ) → Bool

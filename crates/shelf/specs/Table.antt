@@ -1,7 +1,9 @@
--- A shelf over a table: n + 1 entries for each place.
-use Rattle.std.specs.Prelude.{◌≡◌, ℕ, zero, suc, ◌+◌, ◌*◌, ◌≤◌, Bool, true, cond, ◌&&◌, List, [], ◌∷◌, ◌++◌, map, length, take, drop, replicate, Some, None, Option, ◌==◌, nat_le, slice_index, refl}
+-- A shelf over a table: for each place a block of n + 1 entries.
+use Rattle.std.specs.Prelude.{◌≡◌, ℕ, zero, suc, ◌+◌, ◌-◌, ◌*◌, ◌≤◌, Bool, true, cond, ◌&&◌, List, [], ◌∷◌, map, length, take, drop, replicate, Some, None, Option, ◌==◌, nat_le, slice_index, refl}
 use Rattle.std.proofs.Common.{ap, ◌∙◌, arith}
+use Rattle.std.proofs.lemmas.Bool.{and_from, and_parts}
 use Rattle.std.proofs.lemmas.List.{length-map}
+use Rattle.parts.specs.Lists.{at_place}
 use Rattle.shelf.specs.Meaning.{Shelved, Sound, every, sound_place}
 
 -- how many entries are used
@@ -16,34 +18,52 @@ can_make n places entries = ((nat_le 1 n && nat_le n 120) && (nat_le n places &&
 abbrev pub Sized : ℕ → ℕ → ℕ → Type 0
 Sized n places entries = (1 ≤ n) × (n ≤ 120) × (n ≤ places) × (places ≤ 256) × (used n places ≤ entries)
 
--- the entries of each place
-abbrev pub blocks : ℕ → ℕ → List ℕ → List (List ℕ)
+-- the block of each place
+abbrev pub blocks : {X : Type 0} → ℕ → ℕ → List X → List (List X)
 blocks width zero entries = []
 blocks width (suc places) entries = take width entries ∷ blocks width places (drop width entries)
 
--- a place's row from its entries: nothing where the first is 0, else the row that they stand for
+-- how many parts a block is for
+abbrev pub parts_of : {X : Type 0} → List X → ℕ
+parts_of block = length block - 1
+
+-- the block of a place that there is
+pub record IsBlock {X : Type 0} (formed : ℕ → List X → Bool) (n places : ℕ) (entries : List X) (place : ℕ) (block : List X) : Type 0 where
+  pub low : 1 ≤ place
+  pub high : place ≤ places
+  pub there : at_place (blocks (n + 1) places entries) place ≡ Some block
+  pub long : length block ≡ n + 1
+  pub kept : formed n block ≡ true
+
+-- a place's row from its block of numbers: nothing where the first is 0, else the row that they stand for
 abbrev pub read_block : (List ℕ → List ℕ) → List ℕ → Option (List ℕ)
 read_block row block = cond (slice_index block 0 == 0) None (Some (row block))
 
-abbrev pub read_by : (List ℕ → List ℕ) → ℕ → ℕ → List ℕ → Shelved
-read_by row n places entries = record { n = n; rows = map (read_block row) (blocks (n + 1) places entries) }
+abbrev pub read_by : {X : Type 0} → (List X → Option (List ℕ)) → ℕ → ℕ → List X → Shelved
+read_by row n places entries = record { n = n; rows = map row (blocks (n + 1) places entries) }
 
 -- a shelf with nothing on it
 abbrev pub empty : ℕ → ℕ → Shelved
 empty n places = record { n = n; rows = replicate places None }
 
--- entries with others laid over them from a place on
-abbrev pub overlay : List ℕ → ℕ → List ℕ → List ℕ
-overlay entries at others = take at entries ++ (others ++ drop (at + length others) entries)
-
-pub length_blocks : (width places : ℕ) (entries : List ℕ) → length (blocks width places entries) ≡ places
+pub length_blocks : {X : Type 0} (width places : ℕ) (entries : List X) → length (blocks width places entries) ≡ places
 length_blocks width zero entries = refl
 length_blocks width (suc places) entries = ap suc (length_blocks width places (drop width entries))
 
-pub length_rows : (row : List ℕ → List ℕ) (n places : ℕ) (entries : List ℕ) → length (read_by row n places entries).rows ≡ places
-length_rows row n places entries = length-map (blocks (n + 1) places entries) (read_block row) ∙ length_blocks (n + 1) places entries
+module _ {X : Type 0} (row : List X → Option (List ℕ)) (n : ℕ) where
+  pub length_rows : (places : ℕ) (entries : List X) → length (read_by row n places entries).rows ≡ places
+  length_rows places entries = length-map (blocks (n + 1) places entries) row ∙ length_blocks (n + 1) places entries
 
-pub read_sound : (row : List ℕ → List ℕ) (n places size : ℕ) (entries : List ℕ) → Sized n places size → every (sound_place n) (read_by row n places entries).rows ≡ true → Sound (read_by row n places entries)
-read_sound row n places size entries z h =
-    let e = length_rows row n places entries in
-    record { some = z.0; few = z.1; enough = omega arith; most = omega arith; rows_sound = h }
+  pub read_sound : (places size : ℕ) (entries : List X) → Sized n places size → every (sound_place n) (read_by row n places entries).rows ≡ true → Sound (read_by row n places entries)
+  read_sound places size entries z h =
+      let e = length_rows places entries in
+      record { some = z.0; few = z.1; enough = omega arith; most = omega arith; rows_sound = h }
+
+  -- where a block that is well formed is empty or holds a row, so does each place
+  module _ (formed : List X → Bool) (sound : (block : List X) → formed block ≡ true → sound_place n (row block) ≡ true) where
+    rows_sound : (bs : List (List X)) → every formed bs ≡ true → every (sound_place n) (map row bs) ≡ true
+    rows_sound [] h = refl
+    rows_sound (b ∷ bs) h = let p = and_parts _ _ h in and_from _ _ (sound b p.0) (rows_sound bs p.1)
+
+    pub table_sound : (places size : ℕ) (entries : List X) → Sized n places size → every formed (blocks (n + 1) places entries) ≡ true → Sound (read_by row n places entries)
+    table_sound places size entries z h = read_sound places size entries z (rows_sound (blocks (n + 1) places entries) h)

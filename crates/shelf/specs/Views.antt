@@ -1,20 +1,29 @@
 -- What a shelf over a table means, and the entries that it has no place for.
 use Rattle.std.specs.Prelude.{ℕ, List, drop, vec_items}
 use Rattle.shelf.specs.Meaning.{Shelved}
-use Rattle.shelf.specs.Table.{used}
+use Rattle.shelf.specs.Table.{used, read_by}
 use Rattle.shelf.specs.Grid.{grid}
 use Rattle.shelf.specs.Listed.{listed}
-use Rattle.shelf.specs.declared.grid.GridShelf.{GridShelf}
-use Rattle.shelf.specs.declared.list.ListShelf.{ListShelf}
+use Rattle.shelf.specs.declared.entry.Entry.{Ghosts}
+use Rattle.shelf.specs.declared.table.TableShelf.{TableShelf}
 
-abbrev pub grid_meaning : GridShelf → Shelved
-grid_meaning s = grid s.n s.places (vec_items s.table)
+module _ {X : Type 0} {g : Ghosts X} where
+  abbrev pub table_meaning : TableShelf X g → Shelved
+  table_meaning s = read_by (g.row_in s.n) s.n s.places (vec_items s.table)
 
-abbrev pub grid_rest : GridShelf → List ℕ
-grid_rest s = drop (used s.n s.places) (vec_items s.table)
+  abbrev pub table_rest : TableShelf X g → List X
+  table_rest s = drop (used s.n s.places) (vec_items s.table)
 
-abbrev pub list_meaning : ListShelf → Shelved
-list_meaning s = listed s.n s.places (vec_items s.table)
+-- of a grid, whose entries are codes, and of lists, whose entries are marks
+module _ {g : Ghosts ℕ} where
+  abbrev pub grid_meaning : TableShelf ℕ g → Shelved
+  grid_meaning s = grid s.n s.places (vec_items s.table)
 
-abbrev pub list_rest : ListShelf → List ℕ
-list_rest s = drop (used s.n s.places) (vec_items s.table)
+  abbrev pub grid_rest : TableShelf ℕ g → List ℕ
+  grid_rest s = table_rest s
+
+  abbrev pub list_meaning : TableShelf ℕ g → Shelved
+  list_meaning s = listed s.n s.places (vec_items s.table)
+
+  abbrev pub list_rest : TableShelf ℕ g → List ℕ
+  list_rest s = table_rest s

@@ -4,6 +4,7 @@
 ghost use Rattle.std.specs.Prelude.{◌≡◌, length};
 ghost use Rattle.shelf.specs.Meaning.{Shelved, Sound, code_of_place, marks_of_place, mark_of_place, can_write, written, can_clear, cleared, reply};
 
+mod entry;
 pub mod grid;
 pub mod list;
 pub mod table;
@@ -30,6 +31,7 @@ pub trait Shelf {
         ensures { result ≡ length (meaning self.now).rows };
 
     // A place's code for a part; nothing where the place is empty.
+    // Stays a code: it is a byte of a row that was written, and rows come from callers.
     fn code(&self, place: usize, part: usize) -> Result<Option<u8>, Refusal>
         ensures { result ≡ code_of_place (meaning self.now) place part };
 
@@ -38,9 +40,9 @@ pub trait Shelf {
         ensures { result ≡ marks_of_place (meaning self.now) place }
     {
         let mut marks = 0;
-        for i in 0..self.n() {
-            let code = self.code(place, i + 1).ok()??;
-            if Side::from_code(u64::from(code)).is_some() {
+        for part in 1..=self.n() {
+            let code = self.code(place, part).ok()??;
+            if Side::try_from(u64::from(code)).is_ok() {
                 marks += 1;
             }
         }
@@ -52,11 +54,11 @@ pub trait Shelf {
         ensures { result ≡ mark_of_place (meaning self.now) place k }
     {
         let mut left = k;
-        for i in 0..self.n() {
-            let code = self.code(place, i + 1).ok()??;
-            if let Some(side) = Side::from_code(u64::from(code)) {
+        for part in 1..=self.n() {
+            let code = self.code(place, part).ok()??;
+            if let Ok(side) = Side::try_from(u64::from(code)) {
                 if left == 1 {
-                    return Some(Mark { part: i + 1, side });
+                    return Some(Mark { part, side });
                 }
                 left = left.saturating_sub(1);
             }

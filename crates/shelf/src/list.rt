@@ -1,18 +1,98 @@
 // A shelf as lists of marks: for each place a number that is 0 where it is empty, else 1 more than how many marks its row names,
 // and then these marks, by rising part.
-ghost use Rattle.std.specs.Prelude.{◌≡◌, ◌+◌, true, vec_len};
-ghost use Rattle.shelf.specs.Meaning.{every};
-ghost use Rattle.shelf.specs.Table.{Sized, blocks};
-ghost use Rattle.shelf.specs.Listed.{well_formed};
+ghost use Rattle.std.specs.Prelude.{◌≡◌, ◌+◌, ◌≤◌, ℕ, map, length, slice_index, refl, MatchOption};
+ghost use Rattle.shelf.specs.Listed.{number_of, mark_from, marks_in, code_in, well_formed, read_marks, read_row, zero_formed};
 
-pub mod calls;
+use crate::entry::Entry;
+use crate::table::TableShelf;
+use parts::{Mark, Side};
 
 // A shelf over a table of numbers that it owns.
-#[derive(Drop)]
-pub struct ListShelf {
-    n: usize,
-    places: usize,
-    table: Vec<u16>,
-    ghost sized: { Sized n places (vec_len table) },
-    ghost kept: { every (well_formed n) (blocks (n + 1) places table.items) ≡ true },
+pub type ListShelf = TableShelf<u16>;
+
+impl Entry for u16 {
+    ghost EMPTY = { 0 };
+
+    ghost row_in = { read_marks };
+
+    ghost formed = { well_formed };
+
+    ghost sound = { λ n block h. read_row n block };
+
+    const EMPTY: u16 = 0;
+
+    fn code(block: &[u16], part: usize) -> Option<u8> {
+        Some(code_in(numbers(block)?, part))
+    }
+
+    fn marks(block: &[u16]) -> Option<usize> {
+        Some(numbers(block)?.len())
+    }
+
+    fn mark(block: &[u16], k: usize) -> Option<Mark> {
+        let number = numbers(block)?.get(k.checked_sub(1)?)?;
+        Some(mark_from(*number))
+    }
+
+    // Stays a count of its own: it is what the block's first entry says in the table that a caller hands in.
+    fn lay(block: &mut [u16], row: &[u8]) {
+        let mut head = 1;
+        for (i, code) in row.iter().enumerate() {
+            if let Ok(side) = Side::try_from(u64::from(*code)) {
+                block[head] = number_of(Mark { part: i + 1, side });
+                head += 1;
+            }
+        }
+        block[0] = head as u16;
+    }
+
+    ghost emptied = { λ n rest. refl };
+
+    ghost emptied_formed = { zero_formed };
+
+    ghost copied = { (tt, λ other h. h) };
+}
+
+// The numbers of a block's marks; nothing where the block is empty.
+fn numbers(block: &[u16]) -> Option<&[u16]>
+    requires { slice_index block.now 0 ≤ length block.now }
+    ensures { MatchOption result (slice_index block.now 0 ≡ 0) (λ r. (1 ≤ slice_index block.now 0) × (map mark_from r.now ≡ marks_in block.now)) }
+{
+    let (head, rest) = block.split_first()?;
+    let marks = usize::from(*head).checked_sub(1)?;
+    Some(&rest[..marks])
+}
+
+// A mark as a number: twice its part, and 1 more where it is out.
+// Stays a function, and so does the way back: entries are bare numbers of a caller's table, and a type for them would be put on and off at each use.
+fn number_of(mark: Mark) -> u16
+    requires { mark.part ≤ 120 }
+    ensures { result ≡ number_of mark }
+{
+    let twice = mark.part as u16 * 2;
+    match mark.side {
+        Side::In => twice,
+        Side::Out => twice + 1,
+    }
+}
+
+// The mark that a number stands for.
+fn mark_from(number: u16) -> Mark
+    ensures { result ≡ mark_from number }
+{
+    let part = usize::from(number / 2);
+    let side = if number % 2 == 0 { Side::In } else { Side::Out };
+    Mark { part, side }
+}
+
+// The code that marks give a part: 0 where none names it.
+// Stays a code: it is the byte that the row has for the part, and 0 is one.
+fn code_in(numbers: &[u16], part: usize) -> u8
+    ensures { result ≡ code_in (map mark_from numbers.now) part }
+{
+    numbers
+        .iter()
+        .map(|number| mark_from(*number))
+        .find(|mark| mark.part == part)
+        .map_or(0, |mark| u8::from(mark.side))
 }

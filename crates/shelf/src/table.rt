@@ -1,33 +1,19 @@
-// What shelves over a table share: n + 1 entries for each place, in a table that the shelf owns.
-ghost use Rattle.std.specs.Prelude.{◌≡◌, ◌≤◌, ◌++◌, length, drop, replicate};
-ghost use Rattle.shelf.specs.Table.{can_make};
+// A shelf over a table that it owns: for each place a block of n + 1 entries.
+ghost use Rattle.std.specs.Prelude.{◌≡◌, ◌+◌, true, vec_len};
+ghost use Rattle.shelf.specs.Meaning.{every};
+ghost use Rattle.shelf.specs.Table.{Sized, blocks};
 
-use parts::limits::{MOST_PARTS, MOST_PLACES};
-use parts::refusals::Refusal;
+pub mod calls;
 
-// Why no shelf was made, and the table as it was.
+use crate::entry::Entry;
+
+// A shelf of places that stand in a table as its entries say.
 #[derive(Drop)]
-pub struct Unmade<T> {
-    pub refusal: Refusal,
-    pub table: Vec<T>,
-}
-
-// Whether a shelf may be made over so many entries.
-pub(crate) fn can_make(n: usize, places: usize, entries: usize) -> bool
-    ensures { result ≡ can_make n places entries }
-{
-    if n == 0 || n > MOST_PARTS || places < n || places > MOST_PLACES {
-        return false;
-    }
-    places * (n + 1) <= entries
-}
-
-// Writes one value over the first entries.
-pub(crate) fn fill_front<T: Copy>(entries: &mut [T], count: usize, value: T)
-    requires { count ≤ length entries.old }
-    ensures { entries.new ≡ replicate count value ++ drop count entries.old }
-{
-    for i in 0..count {
-        entries[i] = value;
-    }
+pub struct TableShelf<E: Entry> {
+    n: usize,
+    places: usize,
+    // Stays one table beside its sizes: it is a caller's, and goes back as one.
+    table: Vec<E>,
+    ghost sized: { Sized n places (vec_len table) },
+    ghost kept: { every (E.formed n) (blocks (n + 1) places (table.items)) ≡ true },
 }

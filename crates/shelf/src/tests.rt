@@ -1,8 +1,15 @@
 // The same calls on each make.
+ghost use Rattle.std.specs.Prelude.{◌≡◌, true, false, drop, vec_len, MatchResult};
+ghost use Rattle.parts.specs.declared.refusals.Refusal.TheVariants.{NotAShelf};
+ghost use Rattle.shelf.specs.Meaning.{can_write, written, can_clear, cleared, reply};
+ghost use Rattle.shelf.specs.Table.{used, can_make, empty, table_sound};
+ghost use Rattle.shelf.specs.Grid.{read_codes, formed_codes};
+ghost use Rattle.shelf.specs.Views.{grid_meaning, grid_rest, list_meaning, list_rest};
+
 use crate::Shelf;
 use crate::grid::GridShelf;
 use crate::list::ListShelf;
-use parts::refusals::Refusal;
+use parts::refusals::{Refusal, Refused};
 use parts::{Mark, Side};
 use std::process::Abort;
 use std::test::Fail;
@@ -13,6 +20,84 @@ const IN_3: Mark = Mark {
     part: 3,
     side: Side::In,
 };
+
+// What a new shelf, a write and a clearing promise, as it reads for a grid of codes.
+fn new_grid(n: usize, places: usize, table: Vec<u8>) -> Result<GridShelf, Refused<Vec<u8>>>
+    ensures { MatchResult result (λ s. (can_make n places (vec_len table) ≡ true) × (grid_meaning s ≡ empty n places) × (grid_rest s ≡ drop (used n places) table.items)) (λ e. (can_make n places (vec_len table) ≡ false) × (e ≡ record { refusal = NotAShelf; back = table })) }
+{
+    GridShelf::new(n, places, table)
+}
+
+fn write_grid(shelf: &mut GridShelf, place: usize, row: &[u8]) -> Result<(), Refusal>
+    ensures answer { result ≡ reply (can_write (grid_meaning shelf.old) place row.now) }
+    ensures after { grid_meaning shelf.new ≡ written (grid_meaning shelf.old) place row.now }
+    ensures rest { grid_rest shelf.new ≡ grid_rest shelf.old }
+{
+    shelf.write(place, row)
+}
+
+fn clear_grid(shelf: &mut GridShelf, place: usize) -> Result<(), Refusal>
+    ensures answer { result ≡ reply (can_clear (grid_meaning shelf.old) place) }
+    ensures after { grid_meaning shelf.new ≡ cleared (grid_meaning shelf.old) place }
+    ensures rest { grid_rest shelf.new ≡ grid_rest shelf.old }
+{
+    shelf.clear(place)
+}
+
+// The same, as it reads for lists of marks.
+fn new_list(n: usize, places: usize, table: Vec<u16>) -> Result<ListShelf, Refused<Vec<u16>>>
+    ensures { MatchResult result (λ s. (can_make n places (vec_len table) ≡ true) × (list_meaning s ≡ empty n places) × (list_rest s ≡ drop (used n places) table.items)) (λ e. (can_make n places (vec_len table) ≡ false) × (e ≡ record { refusal = NotAShelf; back = table })) }
+{
+    ListShelf::new(n, places, table)
+}
+
+fn write_list(shelf: &mut ListShelf, place: usize, row: &[u8]) -> Result<(), Refusal>
+    ensures answer { result ≡ reply (can_write (list_meaning shelf.old) place row.now) }
+    ensures after { list_meaning shelf.new ≡ written (list_meaning shelf.old) place row.now }
+    ensures rest { list_rest shelf.new ≡ list_rest shelf.old }
+{
+    shelf.write(place, row)
+}
+
+fn clear_list(shelf: &mut ListShelf, place: usize) -> Result<(), Refusal>
+    ensures answer { result ≡ reply (can_clear (list_meaning shelf.old) place) }
+    ensures after { list_meaning shelf.new ≡ cleared (list_meaning shelf.old) place }
+    ensures rest { list_rest shelf.new ≡ list_rest shelf.old }
+{
+    shelf.clear(place)
+}
+
+// A grid whose marks are told by the walks that every shelf has.
+#[derive(Drop)]
+struct Walked {
+    grid: GridShelf,
+}
+
+impl Shelf for Walked {
+    ghost meaning = { λ s. grid_meaning s.grid };
+
+    ghost sound = { λ s. table_sound read_codes s.grid.n (formed_codes s.grid.n) (λ block h. h) s.grid.places (vec_len s.grid.table) s.grid.table.items s.grid.sized s.grid.kept };
+
+    fn n(&self) -> usize {
+        self.grid.n()
+    }
+
+    fn places(&self) -> usize {
+        self.grid.places()
+    }
+
+    fn code(&self, place: usize, part: usize) -> Result<Option<u8>, Refusal> {
+        self.grid.code(place, part)
+    }
+
+    fn write(&mut self, place: usize, row: &[u8]) -> Result<(), Refusal> {
+        write_grid(&mut self.grid, place, row)
+    }
+
+    fn clear(&mut self, place: usize) -> Result<(), Refusal> {
+        clear_grid(&mut self.grid, place)
+    }
+}
 
 // An empty shelf of 3 parts and 4 places, before the first write.
 fn starts_empty<S: Shelf>(rt: &impl Abort, shelf: &mut S) {
@@ -44,7 +129,7 @@ fn clears_one<S: Shelf>(rt: &impl Abort, shelf: &mut S) {
 #[test]
 fn grid(rt: HostRuntime) -> Result<(), Fail> {
     let table = Vec::from_elem(rt.alloc(), 7u8, 17)?;
-    let Ok(mut shelf) = GridShelf::new(3, 4, table) else {
+    let Ok(mut shelf) = new_grid(3, 4, table) else {
         return Err(Fail::new("no grid"));
     };
     starts_empty(&rt, &mut shelf);
@@ -55,14 +140,29 @@ fn grid(rt: HostRuntime) -> Result<(), Fail> {
 }
 
 #[test]
+fn by_walks(rt: HostRuntime) -> Result<(), Fail> {
+    let table = Vec::from_elem(rt.alloc(), 7u8, 16)?;
+    let Ok(grid) = new_grid(3, 4, table) else {
+        return Err(Fail::new("no grid"));
+    };
+    let mut shelf = Walked { grid };
+    starts_empty(&rt, &mut shelf);
+    keeps_rows(&rt, &mut shelf);
+    clears_one(&rt, &mut shelf);
+    Ok(())
+}
+
+#[test]
 fn list(rt: HostRuntime) -> Result<(), Fail> {
     let table = Vec::from_elem(rt.alloc(), 7u16, 17)?;
-    let Ok(mut shelf) = ListShelf::new(3, 4, table) else {
+    let Ok(mut shelf) = new_list(3, 4, table) else {
         return Err(Fail::new("no list"));
     };
     starts_empty(&rt, &mut shelf);
     keeps_rows(&rt, &mut shelf);
     clears_one(&rt, &mut shelf);
+    assert_eq!(rt; write_list(&mut shelf, 5, &[0, 0, 0]), Err(OUTSIDE));
+    assert_eq!(rt; clear_list(&mut shelf, 0), Err(OUTSIDE));
     assert_eq!(rt; shelf.into_table().last().copied(), Some(7));
     Ok(())
 }
@@ -70,10 +170,10 @@ fn list(rt: HostRuntime) -> Result<(), Fail> {
 #[test]
 fn too_few_places(rt: HostRuntime) -> Result<(), Fail> {
     let table = Vec::from_elem(rt.alloc(), 7u8, 17)?;
-    let Err(unmade) = GridShelf::new(4, 3, table) else {
+    let Err(refused) = new_grid(4, 3, table) else {
         return Err(Fail::new("a grid"));
     };
-    assert_eq!(rt; unmade.refusal, Refusal::NotAShelf);
-    assert_eq!(rt; unmade.table.first().copied(), Some(7));
+    assert_eq!(rt; refused.refusal, Refusal::NotAShelf);
+    assert_eq!(rt; refused.back.first().copied(), Some(7));
     Ok(())
 }

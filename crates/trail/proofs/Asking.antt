@@ -1,50 +1,46 @@
--- The trail walked from its newest entry.
-use Rattle.std.proofs.Common.{◌≡◌, ℕ, ◌+◌, ◌-◌, ◌<◌, ◌≤◌, true, false, ◌||◌, List, ◌∷◌, get_or, None, ap, ◌∙◌, arith}
-use Rattle.std.proofs.lemmas.Bool.{eq-eqb, ne_eqb, cond-true, cond-false}
+-- What is asked of the trail, in the words that a search along a list has.
+use Rattle.std.proofs.Common.{◌≡◌, ℕ, Bool, true, false, cond, ◌||◌, eqb, [], ◌∷◌, Some, Option, sym, refl, ap, ◌∙◌, inl, inr}
+use Rattle.std.proofs.lemmas.Bool.{cases_eq, eq-eqb, ne_eqb}
+use Rattle.std.specs.Bool.{Decides}
+use Rattle.std.specs.List.{find, list_any}
+use Rattle.std.specs.Option.{option_and_then}
 use Rattle.search.specs.declared.Entry.{Entry}
+use Rattle.search.specs.declared.Kind.{Kind}
+use Rattle.search.specs.declared.Kind.TheVariants.{Held, Picked, Forced}
+use Rattle.search.specs.declared.Reason.{Reason}
+use Rattle.search.specs.declared.Reason.TheVariants.{Book, Shelf}
 use Rattle.search.specs.Machine.{is_place, needed, reason_in, reason_of}
-use Rattle.trail.specs.Stack.{stacked}
-use Rattle.trail.specs.declared.Trail.{Trail}
-use Rattle.trail.proofs.Stacking.{stacked_pop}
+use Rattle.search.specs.Trail.{Trail}
+use Rattle.search.proofs.Basics.{clash}
 
--- the entries that are left after i of them
-abbrev pub left : Trail → ℕ → List Entry
-left s i = stacked s.entries (s.len - i)
+no_answer : (b : Bool) (P : Type 0) → Decides b P → (P → ⊥) → b ≡ false
+no_answer true P e n = absurd (n (e.0 refl))
+no_answer false P e n = refl
 
--- the one that comes next
-abbrev pub next : Trail → ℕ → Entry → Entry
-next s i d = get_or s.entries (s.len - 1 - i) d
+-- what is forced by a place is the one kind that says so
+pub by_place : (p : ℕ) (k : Kind) (b : Bool) → Decides b (k ≡ Forced (Shelf p)) → b ≡ is_place p k
+by_place p Held b e = no_answer b _ e (λ q. clash (cc))
+by_place p Picked b e = no_answer b _ e (λ q. clash (cc))
+by_place p (Forced (Book j)) b e = no_answer b _ e (λ q. clash (cc))
+by_place p (Forced (Shelf j)) b e =
+    elim (cases_eq p j) [
+      | inl q ↦ e.1 (ap (λ i. Forced (Shelf i)) (sym q)) ∙ sym (eq-eqb p j q)
+      | inr n ↦ no_answer b _ e (λ q. n (cc)) ∙ sym (ne_eqb p j n)
+    ]
 
-module _ (s : Trail) (i : ℕ) (d : Entry) (h : i < s.len) where
-  walked : left s i ≡ next s i d ∷ left s (i + 1)
-  walked =
-      let k : s.len - i - 1 ≡ s.len - 1 - i = omega arith in
-      let l : s.len - i - 1 ≡ s.len - (i + 1) = omega arith in
-      stacked_pop s.entries (s.len - i) d (omega arith) (omega (arith, s.short, s.long))
-      ∙ ap (λ j. get_or s.entries j d ∷ stacked s.entries (s.len - i - 1)) k ∙ ap (λ j. next s i d ∷ stacked s.entries j) l
+pub needed_any : (t : Trail) (p : ℕ) → list_any (λ (e : Entry). is_place p e.kind) t ≡ needed t p
+unfolding needed
+needed_any [] p = refl
+needed_any (e ∷ t) p = ap (λ b. is_place p e.kind || b) (needed_any t p)
 
-  pub needed_here : (p : ℕ) → is_place p (next s i d).kind ≡ true → needed (left s i) p ≡ true
-  unfolding needed
-  needed_here p e = ap (λ t. needed t p) walked ∙ ap (λ b. b || needed (left s (i + 1)) p) e
+pub reason_found : (t : Trail) (p : ℕ) → option_and_then (λ (e : Entry). reason_in e.kind) (find (λ (e : Entry). eqb e.mark.part p) t) ≡ reason_of t p
+unfolding reason_of
+reason_found [] p = refl
+reason_found (e ∷ t) p = by (eqb e.mark.part p) (reason_found t p)
+  where
+    found : Option Entry → Option Reason
+    found o = option_and_then (λ (e : Entry). reason_in e.kind) o
 
-  pub needed_later : (p : ℕ) → is_place p (next s i d).kind ≡ false → needed (left s i) p ≡ needed (left s (i + 1)) p
-  unfolding needed
-  needed_later p e = ap (λ t. needed t p) walked ∙ ap (λ b. b || needed (left s (i + 1)) p) e
-
-  pub reason_here : (p : ℕ) → (next s i d).mark.part ≡ p → reason_of (left s i) p ≡ reason_in (next s i d).kind
-  unfolding reason_of
-  reason_here p e = ap (λ t. reason_of t p) walked ∙ cond-true _ _ (reason_of (left s (i + 1)) p) (eq-eqb _ _ e)
-
-  pub reason_later : (p : ℕ) → ((next s i d).mark.part ≡ p → ⊥) → reason_of (left s i) p ≡ reason_of (left s (i + 1)) p
-  unfolding reason_of
-  reason_later p e = ap (λ t. reason_of t p) walked ∙ cond-false _ (reason_in (next s i d).kind) _ (ne_eqb _ _ e)
-
--- nothing is left
-module _ (s : Trail) (i : ℕ) (h : s.len ≤ i) where
-  pub needed_none : (p : ℕ) → needed (left s i) p ≡ false
-  unfolding needed
-  needed_none p = let z : s.len - i ≡ 0 = omega arith in ap (λ j. needed (stacked s.entries j) p) z
-
-  pub reason_none : (p : ℕ) → reason_of (left s i) p ≡ None
-  unfolding reason_of
-  reason_none p = let z : s.len - i ≡ 0 = omega arith in ap (λ j. reason_of (stacked s.entries j) p) z
+    by : (b : Bool) → found (find (λ (e : Entry). eqb e.mark.part p) t) ≡ reason_of t p → found (cond b (Some e) (find (λ (e : Entry). eqb e.mark.part p) t)) ≡ cond b (reason_in e.kind) (reason_of t p)
+    by true h = refl
+    by false h = h

@@ -1,8 +1,11 @@
 -- Sound rules: the first mark and the others, one mark by its place, a part that no mark names.
-use Rattle.std.proofs.Common.{◌≡◌, ℕ, zero, suc, ◌<◌, ◌≤◌, true, false, not, ◌&&◌, eqb, leb, [], ◌∷◌, length, get_or, refl, arith}
+use Rattle.std.proofs.Common.{◌≡◌, ℕ, zero, suc, ◌≤◌, true, false, not, ◌&&◌, eqb, leb, [], ◌∷◌, Some, refl, arith}
 use Rattle.std.proofs.lemmas.Bool.{and_parts, and_from, or_from, le-leb, leb-true, ne_eqb, not-true, not_from_false}
+use Rattle.std.specs.List.{slice_get}
+use Rattle.parts.specs.Lists.{at_place}
 use Rattle.parts.specs.declared.Mark.{Mark}
 use Rattle.book.specs.Meaning.{Rule, names, sound_rule}
+use Rattle.search.proofs.Basics.{none_some, some_eq, part_eq}
 
 -- what a sound rule tells of its first mark
 pub record Front (n : ℕ) (m : Mark) (r : Rule) : Type 0 where
@@ -25,10 +28,14 @@ sound_from n m r f =
     (and_from (not (names r m.part)) (sound_rule n r) (not_from_false _ f.new) f.rest)
 
 -- the part of a mark by its place
-pub sound_part : (n : ℕ) (r : Rule) (k : ℕ) (d : Mark) → sound_rule n r ≡ true → k < length r → (1 ≤ (get_or r k d).part) × ((get_or r k d).part ≤ n)
-sound_part n [] k d s h = absurd (omega arith)
-sound_part n (m ∷ r) zero d s h = let f = sound_front n m r s in (f.low, f.high)
-sound_part n (m ∷ r) (suc k) d s h = sound_part n r k d (sound_front n m r s).rest (omega arith)
+pub sound_part : (n : ℕ) (r : Rule) (k : ℕ) (m : Mark) → sound_rule n r ≡ true → at_place r k ≡ Some m → (1 ≤ m.part) × (m.part ≤ n)
+sound_part n r zero m s e = absurd (none_some e)
+sound_part n r (suc k) m s e = by r k s e
+  where
+    by : (r : Rule) (k : ℕ) → sound_rule n r ≡ true → slice_get r k ≡ Some m → (1 ≤ m.part) × (m.part ≤ n)
+    by [] k s e = absurd (none_some e)
+    by (x ∷ r) zero s e = let f = sound_front n x r s in let q = part_eq (some_eq e) in (omega (arith, f.low, q), omega (arith, f.high, q))
+    by (x ∷ r) (suc k) s e = by r k (sound_front n x r s).rest e
 
 -- a part outside 1 to n is not named
 pub sound_outside : (n : ℕ) (r : Rule) (p : ℕ) → sound_rule n r ≡ true → (1 ≤ p → p ≤ n → ⊥) → names r p ≡ false

@@ -1,3 +1,4 @@
 pub mod Fronts
 pub mod Stacking
 pub mod Asking
+pub mod Walking

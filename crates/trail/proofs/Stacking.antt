@@ -1,6 +1,6 @@
 -- One entry more, or less, on the trail.
-use Rattle.std.proofs.Common.{◌≡◌, ℕ, zero, suc, ◌+◌, ◌-◌, ◌<◌, ◌≤◌, true, false, not, ◌&&◌, ◌||◌, eqb, leb, List, [], ◌∷◌, map, reverse, length, get_or, take, set, replicate, Some, None, Option, sym, refl, ap, ◌∙◌, ⊎_elim, true≢false, arith}
-use Rattle.std.proofs.lemmas.List.{take_more, take_more_set, reverse-append, length-reverse, length-take-le, get_or-take, ext_get_or, get_or-set_same, get_or-set_other, length-set, set-set, set-get_or}
+use Rattle.std.proofs.Common.{◌≡◌, ℕ, zero, suc, ◌+◌, ◌-◌, ◌<◌, ◌≤◌, true, false, not, ◌&&◌, ◌||◌, eqb, leb, List, [], ◌∷◌, ◌++◌, map, length, get_or, take, set, replicate, Some, None, Option, sym, refl, ap, ◌∙◌, ⊎_elim, true≢false, arith}
+use Rattle.std.proofs.lemmas.List.{reverse-append, length-reverse, length-take-le, get_or-take, ext_get_or, get_or-set_same, get_or-set_other, length-set, set-set, set-get_or}
 use Rattle.std.proofs.lemmas.Bool.{eq-eqb, ne_eqb, cases_eq, and_parts, and_from, le-leb, leb-true, not-true, not_from_false, or_left, or_from, cond-true, cond-false, or_parts}
 use Rattle.parts.specs.Codes.{code_of}
 use Rattle.parts.specs.declared.Mark.{Mark}
@@ -13,6 +13,7 @@ use Rattle.search.proofs.Tally.{tally, tally_le, tally_more}
 use Rattle.trail.specs.Stack.{stacked, marks_of, apart}
 use Rattle.trail.specs.Stacks.{trail_of, is_open, can_push}
 use Rattle.trail.specs.declared.Trail.{Trail}
+use Rattle.trail.proofs.Fronts.{sound_outside}
 
 -- at most n marks name parts from 1 to n, none twice
 named_count : (n : ℕ) (r : Rule) → sound_rule n r ≡ true → tally (names r) 1 n ≡ length r
@@ -44,6 +45,16 @@ settled_names (x ∷ t) p e =
     (λ q. or_from (eqb x.mark.part p) (names (marks_of t) p) (ne_eqb _ _ q) (settled_names t p (sym (cond-false (eqb x.mark.part p) (Some x.mark.side) (settled t p) (ne_eqb _ _ q)) ∙ e)))
     (cases_eq x.mark.part p)
 
+-- a part that is not named is not settled
+pub unnamed : (t : List Entry) (p : ℕ) → names (marks_of t) p ≡ false → settled t p ≡ None
+unfolding settled
+unnamed [] p e = refl
+unnamed (x ∷ t) p e = let k = or_parts (eqb x.mark.part p) (names (marks_of t) p) e in cond-false (eqb x.mark.part p) (Some x.mark.side) (settled t p) k.0 ∙ unnamed t p k.1
+
+-- a part outside 1 to 120 is not settled
+pub open_outside : (s : Trail) (p : ℕ) → (1 ≤ p → p ≤ 120 → ⊥) → settled (trail_of s) p ≡ None
+open_outside s p out = unnamed (trail_of s) p (sound_outside 120 (marks_of (trail_of s)) p s.apart out)
+
 -- the row of n parts, one by one
 pub row_at : (n : ℕ) (t : List Entry) (p : ℕ) → p < n → get_or (row n t) p 0 ≡ code (settled t (1 + p))
 unfolding row from
@@ -54,22 +65,11 @@ row_at n t p h = by 1 n p h
     by i (suc k) zero h = ap (λ q. code (settled t q)) (omega arith)
     by i (suc k) (suc p) h = by (suc i) k p (omega arith) ∙ ap (λ q. code (settled t q)) (omega arith)
 
-pub stacked_push : (es : List Entry) (k : ℕ) (e : Entry) → k < length es → stacked (set es k e) (k + 1) ≡ e ∷ stacked es k
-stacked_push es k e h = ap reverse (take_more_set es k e h) ∙ reverse-append (take k es) (e ∷ [])
+pub stacked_push : (es : List Entry) (e : Entry) → stacked (es ++ (e ∷ [])) ≡ e ∷ stacked es
+stacked_push es e = reverse-append es (e ∷ [])
 
-pub stacked_pop : (es : List Entry) (k : ℕ) (d : Entry) → 0 < k → k ≤ length es → stacked es k ≡ get_or es (k - 1) d ∷ stacked es (k - 1)
-stacked_pop es k d h l =
-    let e : k - 1 + 1 ≡ k = omega arith in
-    ap (λ j. stacked es j) (sym e) ∙ ap reverse (take_more es (k - 1) d (omega arith)) ∙ reverse-append (take (k - 1) es) (get_or es (k - 1) d ∷ [])
-
-pub length_stacked : (es : List Entry) (k : ℕ) → k ≤ length es → length (stacked es k) ≡ k
-length_stacked es k h = length-reverse (take k es) ∙ length-take-le k es h
-
--- a part that is not named is not settled
-pub unnamed : (t : List Entry) (p : ℕ) → names (marks_of t) p ≡ false → settled t p ≡ None
-unfolding settled
-unnamed [] p e = refl
-unnamed (x ∷ t) p e = let k = or_parts (eqb x.mark.part p) (names (marks_of t) p) e in cond-false (eqb x.mark.part p) (Some x.mark.side) (settled t p) k.0 ∙ unnamed t p k.1
+pub length_stacked : (es : List Entry) → length (stacked es) ≡ length es
+length_stacked es = length-reverse es
 
 pub row_none : (n : ℕ) → replicate n 0 ≡ row n []
 unfolding row from settled

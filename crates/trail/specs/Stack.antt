@@ -1,12 +1,12 @@
 -- The entries of a trail, kept oldest first.
-use Rattle.std.specs.Prelude.{ℕ, Bool, List, map, reverse, take}
+use Rattle.std.specs.Prelude.{Bool, List, map, reverse}
 use Rattle.parts.specs.declared.Mark.{Mark}
 use Rattle.book.specs.Meaning.{sound_rule}
 use Rattle.search.specs.declared.Entry.{Entry}
 
--- the trail of the first entries, the newest first
-abbrev pub stacked : List Entry → ℕ → List Entry
-stacked es len = reverse (take len es)
+-- the trail of the entries, the newest first
+abbrev pub stacked : List Entry → List Entry
+stacked es = reverse es
 
 abbrev pub marks_of : List Entry → List Mark
 marks_of t = map (λ (e : Entry). e.mark) t

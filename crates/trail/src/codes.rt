@@ -1,26 +1,25 @@
 // What the trail tells of a part.
 ghost use Rattle.std.specs.Prelude.{◌≡◌};
-ghost use Rattle.search.specs.Trail.{code as code_at, row as row_of, settled};
+ghost use Rattle.search.specs.Trail.{row as row_of, settled};
 ghost use Rattle.trail.specs.Stacks.{trail_of};
 
 use crate::Trail;
-use parts::limits::MOST_PARTS;
+use parts::Side;
 
 impl Trail {
     // The settled row of 120 parts.
+    // Stays a row of bytes: pickers are shown it, and callers' rows are filled from it.
     pub fn row(&self) -> &[u8]
         ensures { result.now ≡ row_of 120 (trail_of self.now) }
     {
         &self.row
     }
 
-    // The settled code of a part: 0 open, 1 in, 2 out.
-    pub fn code(&self, part: usize) -> u8
-        ensures { result ≡ code_at (settled (trail_of self.now) part) }
+    // The side on which a part is settled; nothing where it is open, or is no part.
+    pub fn settled(&self, part: usize) -> Option<Side>
+        ensures { result ≡ settled (trail_of self.now) part }
     {
-        if part == 0 || part > MOST_PARTS {
-            return 0;
-        }
-        self.row[part - 1]
+        let code = *self.row.get(part.checked_sub(1)?)?;
+        Side::try_from(u64::from(code)).ok()
     }
 }

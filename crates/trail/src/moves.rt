@@ -3,39 +3,33 @@ ghost use Rattle.std.specs.Prelude.{◌≡◌, ◌-◌, ◌≤◌, [], ◌∷◌
 ghost use Rattle.trail.specs.Stacks.{trail_of, can_push, newest, older};
 
 use crate::Trail;
+use arrayvec::ArrayVec;
+use parts::Mark;
 use parts::limits::MOST_PARTS;
-use parts::{Mark, Side};
-use search::{Entry, Kind, Reason};
+use search::{Entry, Kind};
 
 impl Trail {
     // Nothing is settled.
     pub fn empty() -> Trail
         ensures { trail_of result ≡ [] }
     {
-        let none = Entry {
-            mark: Mark {
-                part: 1,
-                side: Side::In,
-            },
-            kind: Kind::Held,
-        };
         Trail {
-            entries: [none; 120],
-            len: 0,
+            entries: ArrayVec::new(),
             row: [0; 120],
         }
     }
 
     // Settles a part that is open, from 1 to 120, and tells whether it was.
+    // Stays a bool, as the insertion into a set: there is no value to tell beside it.
     pub fn settle(&mut self, mark: Mark, kind: Kind) -> bool
         ensures answer { result ≡ can_push (trail_of self.old) mark }
         ensures after { trail_of self.new ≡ (if result then (record { mark = mark; kind = kind } ∷ trail_of self.old) else trail_of self.old) }
     {
-        if !self.can_push(mark) {
-            return false;
+        let open = self.can_push(mark);
+        if open {
+            self.push(mark, kind);
         }
-        self.push(mark, kind);
-        true
+        open
     }
 
     // One more part is settled; it was open.
@@ -43,16 +37,15 @@ impl Trail {
         requires { (1 ≤ mark.part) × ((mark.part ≤ 120) × (slice_index self.old.row (mark.part - 1) ≡ 0)) }
         ensures { trail_of self.new ≡ record { mark = mark; kind = kind } ∷ trail_of self.old }
     {
-        self.entries[self.len] = Entry { mark, kind };
-        self.len += 1;
-        self.row[mark.part - 1] = mark.side.code();
+        self.entries.push(Entry { mark, kind });
+        self.row[mark.part - 1] = u8::from(mark.side);
     }
 
     // Whether a mark may be settled.
     fn can_push(&self, mark: Mark) -> bool
         ensures { result ≡ can_push (trail_of self.now) mark }
     {
-        mark.part >= 1 && mark.part <= MOST_PARTS && self.code(mark.part) == 0
+        (1..=MOST_PARTS).contains(&mark.part) && self.settled(mark.part).is_none()
     }
 
     // The newest entry is taken off.
@@ -60,11 +53,7 @@ impl Trail {
         ensures value { result ≡ newest (trail_of self.old) }
         ensures after { trail_of self.new ≡ older (trail_of self.old) }
     {
-        if self.len == 0 {
-            return None;
-        }
-        self.len -= 1;
-        let entry = self.entries[self.len];
+        let entry = self.entries.pop()?;
         self.row[entry.mark.part - 1] = 0;
         Some(entry)
     }

@@ -13,21 +13,33 @@ const UNTOUCHED_MARK: i16 = 7777;
 
 const UNTOUCHED_END: u16 = 7777;
 
-// A text, the tables' lengths, and what is expected of its reading.
+// A text, the tables' lengths, and what is expected of its reading: the reply, and the rules in the tables, each ended by 0.
 #[derive(Drop)]
 struct Case {
     text: Vec<u8>,
     marks: usize,
     ends: usize,
-    expected: Expected,
+    reply: Result<Size, ToldFault>,
+    rules: Vec<i16>,
 }
 
-#[derive(Drop)]
-enum Expected {
-    // n, how many rules, and their marks, each rule ended by 0
-    Book(usize, usize, Vec<i16>),
-    // number, byte and rule
-    Refused(u8, usize, usize),
+// A fault as it is told: its refusal by number, its byte from 0, and the rule being read.
+// Stays beside the fault of a reading: an independent reader tells a number, which need not be that of a refusal.
+#[derive(Clone, Copy, PartialEq, Eq)]
+struct ToldFault {
+    number: u8,
+    byte: usize,
+    rule: usize,
+}
+
+impl From<Fault> for ToldFault {
+    fn from(fault: Fault) -> ToldFault {
+        ToldFault {
+            number: u8::from(fault.refusal),
+            byte: fault.byte,
+            rule: fault.rule,
+        }
+    }
 }
 
 fn main(rt: HostRuntime) -> anyhow::Result<()> {
@@ -36,17 +48,15 @@ fn main(rt: HostRuntime) -> anyhow::Result<()> {
 
 fn run(rt: &HostRuntime) -> anyhow::Result<()> {
     let packed = fs::read_to_string(rt, "cases.tsv")?;
-    let mut cases = 0u32;
     let mut wrong = 0u32;
     for line in packed.lines() {
-        cases = cases.saturating_add(1);
         let case = parse_case(rt.alloc(), line)?;
         if !agrees(rt.alloc(), &case)? {
             wrong = wrong.saturating_add(1);
             println!(rt; "disagrees\t{line}")?;
         }
     }
-    println!(rt; "{cases} texts, {wrong} disagree")?;
+    println!(rt; "{} texts, {wrong} disagree", packed.lines().count())?;
     Ok(())
 }
 
@@ -54,101 +64,76 @@ fn run(rt: &HostRuntime) -> anyhow::Result<()> {
 fn parse_case(heap: Global, line: &str) -> anyhow::Result<Case> {
     let mut fields = line.split('\t');
     let _name = fields.next().context("no name")?;
-    let text = unhex(heap, fields.next().context("no text")?)?;
-    let marks = fields.next().context("no marks")?.parse::<usize>()?;
-    let ends = fields.next().context("no ends")?.parse::<usize>()?;
+    let text = hex::decode(heap, fields.next().context("no text")?)?;
+    let marks = number(fields.next(), "no marks")?;
+    let ends = number(fields.next(), "no ends")?;
     let verdict = fields.next().context("no verdict")?;
-    let first = fields.next().context("no first number")?.parse::<usize>()?;
-    let second = fields.next().context("no second number")?.parse::<usize>()?;
-    let last = fields.next().unwrap_or("");
-    let expected = if verdict == "ok" {
-        Expected::Book(first, second, numbers(heap, last)?)
-    } else {
-        Expected::Refused(u8::try_from(first)?, second, last.parse::<usize>()?)
+    let first = number(fields.next(), "no first number")?;
+    let second = number(fields.next(), "no second number")?;
+    let last = fields.next();
+    let (reply, rules) = match verdict {
+        "ok" => {
+            let size = Size {
+                n: first,
+                m: second,
+            };
+            (Ok(size), last.unwrap_or(""))
+        }
+        _ => {
+            let fault = ToldFault {
+                number: u8::try_from(first)?,
+                byte: second,
+                rule: number(last, "no rule")?,
+            };
+            (Err(fault), "")
+        }
     };
     Ok(Case {
         text,
         marks,
         ends,
-        expected,
+        reply,
+        rules: numbers(heap, rules)?,
     })
 }
 
-// The bytes that hexadecimal digits write.
-fn unhex(heap: Global, digits: &str) -> anyhow::Result<Vec<u8>> {
-    let mut bytes = Vec::new(heap);
-    let mut high = None;
-    for c in digits.chars() {
-        let digit = c.to_digit(16).context("no digit")? as u8;
-        match high {
-            None => high = Some(digit),
-            Some(h) => {
-                bytes.push(h.wrapping_mul(16).wrapping_add(digit))?;
-                high = None;
-            }
-        }
-    }
-    Ok(bytes)
+// The number that a field tells, which must be there.
+// Stays beside the like of trial_session: a library for one line, with a contract and an edit, would be no plainer.
+fn number(field: Option<&str>, missing: &str) -> anyhow::Result<usize> {
+    Ok(field.context(missing)?.parse::<usize>()?)
 }
 
 // The numbers of a line, parted by spaces.
 fn numbers(heap: Global, line: &str) -> anyhow::Result<Vec<i16>> {
-    let mut all = Vec::new(heap);
-    for word in line.split_whitespace() {
-        all.push(word.parse::<i16>()?)?;
-    }
-    Ok(all)
+    line.split_whitespace()
+        .map(|word| -> anyhow::Result<i16> { Ok(word.parse::<i16>()?) })
+        .try_collect(heap)
 }
 
 // Whether the reading's reply, and what it leaves in both tables, are as expected.
 fn agrees(heap: Global, case: &Case) -> Result<bool, AllocError> {
     let mut marks = vec![in heap; UNTOUCHED_MARK; case.marks]?;
     let mut ends = vec![in heap; UNTOUCHED_END; case.ends]?;
-    let reply = read(&case.text, &mut marks, &mut ends);
-    Ok(match (&case.expected, reply) {
-        (Expected::Book(n, m, rules), Ok(size)) => same_size(size, *n, *m)
-            && holds(&marks, &ends, rules),
-        (Expected::Refused(number, byte, rule), Err(fault)) => same_fault(
-            fault, *number, *byte, *rule,
-        ) && holds(&marks, &ends, &[]),
-        _ => false,
-    })
-}
-
-fn same_size(size: Size, n: usize, m: usize) -> bool {
-    size.n == n && size.m == m
-}
-
-fn same_fault(fault: Fault, number: u8, byte: usize, rule: usize) -> bool {
-    fault.refusal.number() == number && fault.byte == byte && fault.rule == rule
+    let reply = read(&case.text, &mut marks, &mut ends).map_err(ToldFault::from);
+    Ok(reply == case.reply && holds(&marks, &ends, &case.rules))
 }
 
 // Whether the tables hold just these rules, each ended by 0, and are untouched after them.
 fn holds(marks: &[i16], ends: &[u16], rules: &[i16]) -> bool {
-    let mut mark = 0usize;
-    let mut end = 0usize;
+    let mut marks_left = marks;
+    let mut ends_left = ends;
     for number in rules {
-        if *number == 0 {
-            if ends.get(end).copied() != u16::try_from(mark).ok() {
-                return false;
-            }
-            end = end.saturating_add(1);
+        let agrees = if *number == 0 {
+            ends_left
+                .split_off_first()
+                .is_some_and(|end| usize::from(*end) + marks_left.len() == marks.len())
         } else {
-            if marks.get(mark).copied() != Some(*number) {
-                return false;
-            }
-            mark = mark.saturating_add(1);
-        }
-    }
-    all_are(marks, mark, UNTOUCHED_MARK) && all_are(ends, end, UNTOUCHED_END)
-}
-
-// Whether each entry from a place on is this one.
-fn all_are<T: PartialEq + Copy>(entries: &[T], from: usize, entry: T) -> bool {
-    for e in entries.iter().skip(from) {
-        if *e != entry {
+            marks_left.split_off_first() == Some(number)
+        };
+        if !agrees {
             return false;
         }
     }
-    true
+    marks_left.iter().all(|mark| *mark == UNTOUCHED_MARK)
+        && ends_left.iter().all(|end| *end == UNTOUCHED_END)
 }

@@ -1,66 +1,72 @@
 // Comparing what a session replies with what is expected.
-use crate::history::{History, Reply};
+use crate::history::{History, Lesson};
+use std::fmt::Debug;
 use std::io;
+use std::ops::AddAssign;
 
 // How many calls were compared, how many places, how many of these with a lesson, and how many replies disagree.
-#[derive(Clone, Copy)]
+#[derive(Clone, Copy, Default)]
 pub struct Tally {
-    pub calls: u32,
-    pub places: u32,
-    pub lessons: u32,
-    pub wrong: u32,
+    pub calls: usize,
+    pub places: usize,
+    pub lessons: usize,
+    pub wrong: usize,
+}
+
+impl AddAssign for Tally {
+    fn add_assign(&mut self, more: Tally) {
+        self.calls = self.calls.saturating_add(more.calls);
+        self.places = self.places.saturating_add(more.places);
+        self.lessons = self.lessons.saturating_add(more.lessons);
+        self.wrong = self.wrong.saturating_add(more.wrong);
+    }
 }
 
 impl Tally {
-    pub fn new() -> Tally {
+    // What comparing each of these lessons counts.
+    pub fn of_lessons(lessons: &[Lesson]) -> Tally {
         Tally {
-            calls: 0,
-            places: 0,
-            lessons: 0,
-            wrong: 0,
-        }
-    }
-
-    // Counts a call.
-    pub fn count_call(&mut self) {
-        self.calls = self.calls.saturating_add(1);
-    }
-
-    // Counts a place, and its lesson where one is expected.
-    pub fn count_place(&mut self, expected: &Reply) {
-        self.places = self.places.saturating_add(1);
-        if *expected != Reply::Empty {
-            self.lessons = self.lessons.saturating_add(1);
+            places: lessons.len(),
+            lessons: lessons.iter().filter(|lesson| lesson.is_some()).count(),
+            ..Tally::default()
         }
     }
 }
 
-// A history, and the make of shelf that it is replayed on.
+// A history, the make of shelf that it is replayed on, and how far they agree.
 #[derive(Clone, Copy)]
 pub struct Trial<'a> {
     pub rt: &'a HostRuntime,
     pub history: &'a History,
     pub make: &'a str,
+    pub tally: Tally,
 }
 
-impl Trial<'_> {
+impl<'a> Trial<'a> {
+    // A trial that has compared nothing yet.
+    pub fn new(rt: &'a HostRuntime, history: &'a History, make: &'a str) -> Trial<'a> {
+        Trial {
+            rt,
+            history,
+            make,
+            tally: Tally::default(),
+        }
+    }
+
     // Prints and counts a reply that is not the expected one.
-    pub fn compare(
-        &self,
+    pub fn compare<T: PartialEq + Debug>(
+        &mut self,
         what: &str,
         number: usize,
-        expected: &Reply,
-        reply: &Reply,
-        tally: &mut Tally,
+        expected: &T,
+        reply: &T,
     ) -> io::Result<()> {
-        if reply != expected {
-            tally.wrong = tally.wrong.saturating_add(1);
-            let name = self.history.name.as_str();
-            let make = self.make;
-            println!(self.rt;
-                "{name} {make} {what} {number}: expected {expected:?}, replied {reply:?}"
-            )?;
+        if reply == expected {
+            return Ok(());
         }
-        Ok(())
+        self.tally.wrong = self.tally.wrong.saturating_add(1);
+        let name = self.history.name.as_str();
+        let make = self.make;
+        println!(self.rt; "{name} {make} {what} {number}: expected {expected:?}, replied {reply:?}")
     }
 }

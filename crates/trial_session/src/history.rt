@@ -1,32 +1,32 @@
 // The history of a session: what it was opened with, each call with its reply, and the lessons at the end.
+use book::text::Tables;
 use parts::Mark;
-use search::Forgetting;
+use parts::refusals::Refusal;
+use search::{Forgetting, Report, Told};
 
 #[derive(Drop)]
 pub struct History {
     pub name: String,
     pub opening: Opening,
     pub calls: Vec<Exchange>,
-    pub lessons: Vec<Reply>,
+    // what stands at each place of the shelf
+    pub lessons: Vec<Lesson>,
 }
 
-// What a session is opened with. The book is told by its two tables, of marks and of ends.
+// What a session is opened with.
 #[derive(Drop)]
 pub struct Opening {
     pub parts: usize,
     pub places: usize,
     pub forget: Forgetting,
-    pub picker: Picking,
-    pub marks: Vec<i16>,
-    pub ends: Vec<u16>,
+    // the list of the ranked picker; where there is none, the picker is that of the lowest open part
+    pub ranking: Option<Vec<Mark>>,
+    // the book
+    pub tables: Tables,
 }
 
-// Which picker: the one of the lowest open part, or that of a ranked list.
-#[derive(Drop)]
-pub enum Picking {
-    Lowest,
-    Ranked(Vec<Mark>),
-}
+// The row that a lesson's marks name; nothing at an empty place.
+pub type Lesson = Option<Vec<u8>>;
 
 // A call, and the reply that is expected.
 #[derive(Drop)]
@@ -38,55 +38,49 @@ pub struct Exchange {
 // A call of a session.
 #[derive(Clone, Copy)]
 pub enum Call {
-    // part and side code
-    Hold(usize, u64),
-    // part
-    Release(usize),
-    // budget
-    Run(usize),
-    // part
-    Settled(usize),
-    // place and part
-    Code(usize, usize),
+    Hold { part: usize, code: u64 },
+    Release { part: usize },
+    Run { budget: usize },
+    Settled { part: usize },
+    Code { place: usize, part: usize },
     Choice,
     Named,
 }
 
-// What a call answers, or what stands at a place.
+// What a call replies.
+pub type Reply = Result<Answer, Unanswered>;
+
+// What an accepted call answers.
 #[derive(Drop, Debug, PartialEq)]
-pub enum Reply {
-    // an accepted hold or release
+pub enum Answer {
+    // a hold or a release
     Done,
-    // by its number
-    Refused(u8),
-    // refused, and yet the row was changed
-    Spoiled(u8),
-    // an accepted run
-    Ran(Standing),
+    Ran(Report),
     // one code, or a row of them
     Codes(Vec<u8>),
-    // an empty place
+    // no code, at an empty place
+    // Stays beside Codes: an expected history tells the two apart by their names.
     Empty,
 }
 
-// What a run tells: the verdict, and the counts.
+// How a call is refused.
+// Stays a number: what is expected may be none of the refusals.
 #[derive(Clone, Copy, Debug, PartialEq)]
-pub struct Standing {
-    pub verdict: Verdict,
-    pub steps: usize,
-    pub turns: usize,
+pub enum Unanswered {
+    Refused(u8),
+    // and yet the row was changed
+    Spoiled(u8),
 }
 
-#[derive(Clone, Copy, Debug, PartialEq)]
-pub enum Verdict {
-    Fits,
-    NoneFits,
-    Spent,
+impl From<Refusal> for Unanswered {
+    fn from(refusal: Refusal) -> Unanswered {
+        Unanswered::Refused(u8::from(refusal))
+    }
 }
 
 // What stands after an opening, and after each accepted hold or release.
-pub const START: Standing = Standing {
-    verdict: Verdict::Spent,
+pub const START: Report = Report {
+    told: Told::Spent,
     steps: 0,
     turns: 0,
 };

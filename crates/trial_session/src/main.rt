@@ -12,7 +12,7 @@ mod replay;
 use crate::comparing::Tally;
 use crate::makes::replay_on_both;
 use crate::packed::{parse_history, placed};
-use anyhow::{Context, anyhow};
+use anyhow::{Context, ensure};
 use std::fs;
 
 fn main(rt: HostRuntime) -> anyhow::Result<()> {
@@ -24,26 +24,17 @@ fn run(rt: &HostRuntime) -> anyhow::Result<()> {
     try_file(rt, "hard.tsv")
 }
 
-// Replays every history of a packed file, and counts.
+// Replays every history of a packed file, whose first line counts them.
 fn try_file(rt: &HostRuntime, file: &str) -> anyhow::Result<()> {
     let packed = fs::read_to_string(rt, file)?;
-    let mut lines = packed.lines();
-    let counted = lines
-        .next()
-        .context("no count of histories")?
-        .parse::<usize>()?;
-    let mut tally = Tally::new();
-    let mut histories = 0usize;
-    for line in lines {
-        histories = histories.saturating_add(1);
-        let name = line.split('\t').next().unwrap_or("");
-        let what = format!(in rt.alloc(); "history {name}, line")?;
-        let number = histories.saturating_add(1);
-        placed(rt.alloc(), &what, number, try_line(rt, line, &mut tally))?;
+    let (counted, lines) = packed.split_once('\n').context("no count of histories")?;
+    let counted = counted.parse::<usize>()?;
+    let mut tally = Tally::default();
+    for (number, line) in (2..).zip(lines.lines()) {
+        tally += try_line(rt, number, line)?;
     }
-    if histories != counted {
-        return Err(anyhow!("not as many histories as counted"));
-    }
+    let histories = lines.lines().count();
+    ensure!(histories == counted, "not as many histories as counted");
     let Tally {
         calls,
         places,
@@ -56,8 +47,14 @@ fn try_file(rt: &HostRuntime, file: &str) -> anyhow::Result<()> {
     Ok(())
 }
 
-// Replays the history of a line.
-fn try_line(rt: &HostRuntime, line: &str, tally: &mut Tally) -> anyhow::Result<()> {
+// Replays the history of a line; an error names both.
+fn try_line(rt: &HostRuntime, number: usize, line: &str) -> anyhow::Result<Tally> {
+    let name = line.split('\t').next().unwrap_or(line);
+    let what = format_args!("history {name}, line");
+    placed(what, number, replay_line(rt, line))
+}
+
+fn replay_line(rt: &HostRuntime, line: &str) -> anyhow::Result<Tally> {
     let history = parse_history(rt.alloc(), line)?;
-    replay_on_both(rt, &history, tally)
+    replay_on_both(rt, &history)
 }

@@ -1,10 +1,9 @@
 // The makes of book, picker and shelf that a history is replayed on.
 use crate::comparing::{Tally, Trial};
-use crate::history::{History, Opening, Picking};
+use crate::history::{History, Opening};
 use crate::replay::replay;
-use anyhow::anyhow;
+use anyhow::Context;
 use book::text::{Tables, TextBook};
-use parts::Mark;
 use picker::lowest::Lowest;
 use picker::ranked::Ranked;
 use shelf::Shelf;
@@ -12,60 +11,44 @@ use shelf::grid::GridShelf;
 use shelf::list::ListShelf;
 use std::alloc::Global;
 
-// Replays a history on a grid, and on lists.
-pub fn replay_on_both<'a>(
-    rt: &'a HostRuntime,
-    history: &'a History,
-    tally: &mut Tally,
-) -> anyhow::Result<()> {
-    let grid = make_grid(rt.alloc(), &history.opening)?;
-    let make = "grid";
-    replay_on(&Trial { rt, history, make }, grid, tally)?;
-    let list = make_list(rt.alloc(), &history.opening)?;
-    let make = "list";
-    replay_on(&Trial { rt, history, make }, list, tally)
-}
-
-// Replays a history on a shelf, with the history's picker.
-fn replay_on<S: Shelf + Drop>(trial: &Trial, shelf: S, tally: &mut Tally) -> anyhow::Result<()> {
-    let book = lay_book(trial.rt.alloc(), &trial.history.opening)?;
-    match &trial.history.opening.picker {
-        Picking::Lowest => replay(
-            trial,
-            book,
-            make_lowest(trial.history.opening.parts)?,
-            shelf,
-            tally,
-        ),
-        Picking::Ranked(list) => replay(trial, book, rank(trial.rt.alloc(), list)?, shelf, tally),
-    }
-}
-
-fn lay_book(heap: Global, opening: &Opening) -> anyhow::Result<TextBook> {
-    let marks = opening.marks.to_vec(heap)?;
-    let ends = opening.ends.to_vec(heap)?;
-    match TextBook::lay(opening.parts, opening.ends.len(), Tables { marks, ends }) {
-        Ok(book) => Ok(book),
-        Err(_) => Err(anyhow!("no book")),
-    }
-}
-
-fn make_lowest(parts: usize) -> anyhow::Result<Lowest> {
-    match Lowest::new(parts) {
-        Ok(picker) => Ok(picker),
-        Err(_) => Err(anyhow!("no picker")),
-    }
-}
-
-fn rank(heap: Global, list: &[Mark]) -> anyhow::Result<Ranked> {
-    match Ranked::new(list.to_vec(heap)?) {
-        Ok(picker) => Ok(picker),
-        Err(_) => Err(anyhow!("no ranking")),
-    }
-}
-
 // What each entry of a shelf's table holds before the shelf is made: no empty place.
 const UNCLEARED: u8 = 7;
+
+// Replays a history on a grid, and on lists.
+pub fn replay_on_both(rt: &HostRuntime, history: &History) -> anyhow::Result<Tally> {
+    let mut tally = replay_on(Trial::new(rt, history, "grid"), UNCLEARED, GridShelf::new)?;
+    let list = Trial::new(rt, history, "list");
+    tally += replay_on(list, u16::from(UNCLEARED), ListShelf::new)?;
+    Ok(tally)
+}
+
+// Makes the trial's shelf, over a table of such entries, and replays on it with the history's book and picker.
+fn replay_on<T, S, E, F>(trial: Trial, entry: T, new: F) -> anyhow::Result<Tally>
+where
+    T: Copy,
+    S: Shelf + Drop,
+    E: Drop,
+    F: FnOnce(usize, usize, Vec<T>) -> Result<S, E>,
+    requires { F.IsAlwaysCallable new }
+{
+    let heap = trial.rt.alloc();
+    let opening = &trial.history.opening;
+    let table = vec![in heap; entry; entries(opening)]?;
+    let shelf = new(opening.parts, opening.places, table)
+        .ok()
+        .context(format_args!("no {}", trial.make))?;
+    let book = lay_book(heap, opening)?;
+    match &opening.ranking {
+        None => {
+            let picker = Lowest::new(opening.parts).ok().context("no picker")?;
+            replay(trial, book, picker, shelf)
+        }
+        Some(list) => {
+            let picker = Ranked::new(list.to_vec(heap)?).ok().context("no ranking")?;
+            replay(trial, book, picker, shelf)
+        }
+    }
+}
 
 // How many entries a shelf's table has.
 fn entries(opening: &Opening) -> usize {
@@ -74,18 +57,13 @@ fn entries(opening: &Opening) -> usize {
         .saturating_mul(opening.parts.saturating_add(1))
 }
 
-fn make_grid(heap: Global, opening: &Opening) -> anyhow::Result<GridShelf> {
-    let table = vec![in heap; UNCLEARED; entries(opening)]?;
-    match GridShelf::new(opening.parts, opening.places, table) {
-        Ok(shelf) => Ok(shelf),
-        Err(_) => Err(anyhow!("no grid")),
-    }
-}
-
-fn make_list(heap: Global, opening: &Opening) -> anyhow::Result<ListShelf> {
-    let table = vec![in heap; u16::from(UNCLEARED); entries(opening)]?;
-    match ListShelf::new(opening.parts, opening.places, table) {
-        Ok(shelf) => Ok(shelf),
-        Err(_) => Err(anyhow!("no list")),
-    }
+fn lay_book(heap: Global, opening: &Opening) -> anyhow::Result<TextBook> {
+    let Tables { marks, ends } = &opening.tables;
+    let tables = Tables {
+        marks: marks.to_vec(heap)?,
+        ends: ends.to_vec(heap)?,
+    };
+    TextBook::lay(opening.parts, ends.len(), tables)
+        .ok()
+        .context("no book")
 }

@@ -1,12 +1,12 @@
 // Replaying a history on one session.
 use crate::comparing::{Tally, Trial};
-use crate::history::{Call, Reply, START, Standing, Verdict};
-use crate::kept_lessons::{Closed, compare_codes, compare_marks};
-use anyhow::anyhow;
+use crate::history::{Answer, Call, Reply, START, Unanswered};
+use crate::kept_lessons::{compare_codes, compare_marks};
+use anyhow::Context;
 use book::Book;
 use parts::refusals::Refusal;
 use picker::Picker;
-use search::{Report, Told};
+use search::Report;
 use session::Session;
 use shelf::Shelf;
 use std::alloc::{AllocError, Global};
@@ -16,51 +16,55 @@ const UNTOUCHED: u8 = 77;
 
 // Opens a session, makes every call of the history, looks at every lesson, closes the session, and looks at the lessons again.
 pub fn replay<B: Book + Drop, P: Picker + Drop, S: Shelf + Drop>(
-    trial: &Trial,
+    mut trial: Trial,
     book: B,
     picker: P,
     shelf: S,
-    tally: &mut Tally,
-) -> anyhow::Result<()> {
-    let Ok(mut session) = Session::open(book, picker, shelf, trial.history.opening.forget) else {
-        return Err(anyhow!("no session was opened"));
-    };
-    replay_calls(trial, &mut session, tally)?;
-    compare_codes(trial, "lesson", &session, tally)?;
+) -> anyhow::Result<Tally> {
+    let mut session = Session::open(book, picker, shelf, trial.history.opening.forget)
+        .ok()
+        .context("no session was opened")?;
+    replay_calls(&mut trial, &mut session)?;
+    compare_codes(
+        &mut trial,
+        "lesson",
+        |place, part| session.shelf_code(place, part),
+    )?;
     let (_book, _picker, shelf) = session.close();
-    compare_marks(trial, &shelf, tally)?;
-    compare_codes(trial, "lesson after closing", &Closed(shelf), tally)?;
-    Ok(())
+    compare_marks(&mut trial, &shelf)?;
+    compare_codes(
+        &mut trial,
+        "lesson after closing",
+        |place, part| shelf.code(place, part),
+    )?;
+    Ok(trial.tally)
 }
 
 // Makes every call, and after each asks also for the report.
 fn replay_calls<B: Book, P: Picker, S: Shelf>(
-    trial: &Trial,
+    trial: &mut Trial,
     session: &mut Session<B, P, S>,
-    tally: &mut Tally,
 ) -> anyhow::Result<()> {
-    let mut standing = START;
-    for (i, exchange) in trial.history.calls.iter().enumerate() {
-        let number = i.saturating_add(1);
-        let reply = make_call(
-            trial.rt.alloc(),
-            session,
-            trial.history.opening.parts,
-            exchange.call,
-        )?;
-        tally.count_call();
-        trial.compare("call", number, &exchange.reply, &reply, tally)?;
-        standing = standing_after(standing, &exchange.reply);
-        let report = Reply::Ran(standing_of(session.report()));
-        trial.compare(
-            "report after call",
-            number,
-            &Reply::Ran(standing),
-            &report,
-            tally,
-        )?;
+    let heap = trial.rt.alloc();
+    let history = trial.history;
+    let mut report = START;
+    for (number, exchange) in (1..).zip(history.calls.iter()) {
+        let reply = make_call(heap, session, history.opening.parts, exchange.call)?;
+        trial.compare("call", number, &exchange.reply, &reply)?;
+        report = report_after(report, &exchange.reply);
+        trial.compare("report after call", number, &report, &session.report())?;
     }
+    trial.tally.calls = history.calls.len();
     Ok(())
+}
+
+// What stands after an expected reply: a refusal or a question changes nothing.
+fn report_after(report: Report, reply: &Reply) -> Report {
+    match reply {
+        Ok(Answer::Done) => START,
+        Ok(Answer::Ran(told)) => *told,
+        _ => report,
+    }
 }
 
 // Makes one call, and tells its reply.
@@ -71,84 +75,55 @@ fn make_call<B: Book, P: Picker, S: Shelf>(
     call: Call,
 ) -> Result<Reply, AllocError> {
     match call {
-        Call::Hold(part, code) => Ok(done(session.hold(part, code))),
-        Call::Release(part) => Ok(done(session.release(part))),
-        Call::Run(budget) => Ok(ran(session.run(budget))),
-        Call::Settled(part) => code_reply(heap, session.settled(part)),
-        Call::Code(place, part) => place_reply(heap, session.shelf_code(place, part)),
-        Call::Choice => {
-            let mut row = vec![in heap; UNTOUCHED; parts]?;
-            let reply = session.choice(&mut row);
-            Ok(row_reply(reply, row))
-        }
-        Call::Named => {
-            let mut row = vec![in heap; UNTOUCHED; parts]?;
-            let reply = session.named(&mut row);
-            Ok(row_reply(reply, row))
-        }
+        Call::Hold { part, code } => reply_by(session.hold(part, code), |()| Ok(Answer::Done)),
+        Call::Release { part } => reply_by(session.release(part), |()| Ok(Answer::Done)),
+        Call::Run { budget } => reply_by(session.run(budget), |report| Ok(Answer::Ran(report))),
+        Call::Settled { part } => reply_by(
+            session.settled(part),
+            |code| codes_of(heap, Some(code)),
+        ),
+        Call::Code { place, part } => reply_by(
+            session.shelf_code(place, part),
+            |code| codes_of(heap, code),
+        ),
+        Call::Choice => reply_by_row(heap, parts, |row| session.choice(row)),
+        Call::Named => reply_by_row(heap, parts, |row| session.named(row)),
     }
 }
 
-fn done(reply: Result<(), Refusal>) -> Reply {
-    match reply {
-        Ok(()) => Reply::Done,
-        Err(refusal) => Reply::Refused(refusal.number()),
+// The reply of a call that changes no row.
+fn reply_by<T, F: FnOnce(T) -> Result<Answer, AllocError>>(
+    told: Result<T, Refusal>,
+    answer: F,
+) -> Result<Reply, AllocError>
+    requires { F.IsAlwaysCallable answer }
+{
+    Ok(match told {
+        Ok(told) => Ok(answer(told)?),
+        Err(refusal) => Err(Unanswered::from(refusal)),
+    })
+}
+
+// One code as an answer, or none.
+fn codes_of(heap: Global, code: Option<u8>) -> Result<Answer, AllocError> {
+    match code {
+        Some(code) => Ok(Answer::Codes(vec![in heap; code]?)),
+        None => Ok(Answer::Empty),
     }
 }
 
-fn ran(reply: Result<Report, Refusal>) -> Reply {
-    match reply {
-        Ok(report) => Reply::Ran(standing_of(report)),
-        Err(refusal) => Reply::Refused(refusal.number()),
-    }
-}
-
-fn code_reply(heap: Global, reply: Result<u8, Refusal>) -> Result<Reply, AllocError> {
-    match reply {
-        Ok(code) => Ok(Reply::Codes(vec![in heap; code]?)),
-        Err(refusal) => Ok(Reply::Refused(refusal.number())),
-    }
-}
-
-fn place_reply(heap: Global, reply: Result<Option<u8>, Refusal>) -> Result<Reply, AllocError> {
-    match reply {
-        Ok(Some(code)) => Ok(Reply::Codes(vec![in heap; code]?)),
-        Ok(None) => Ok(Reply::Empty),
-        Err(refusal) => Ok(Reply::Refused(refusal.number())),
-    }
-}
-
-// A row that was filled, or a refusal, which has to leave the row as it was.
-fn row_reply(reply: Result<(), Refusal>, row: Vec<u8>) -> Reply {
-    let Err(refusal) = reply else {
-        return Reply::Codes(row);
-    };
-    for code in &row {
-        if *code != UNTOUCHED {
-            return Reply::Spoiled(refusal.number());
-        }
-    }
-    Reply::Refused(refusal.number())
-}
-
-fn standing_of(report: Report) -> Standing {
-    let verdict = match report.told {
-        Told::Fits => Verdict::Fits,
-        Told::NoneFits => Verdict::NoneFits,
-        Told::Spent => Verdict::Spent,
-    };
-    Standing {
-        verdict,
-        steps: report.steps,
-        turns: report.turns,
-    }
-}
-
-// What stands after an expected reply: a refusal or a question changes nothing.
-fn standing_after(standing: Standing, reply: &Reply) -> Standing {
-    match reply {
-        Reply::Done => START,
-        Reply::Ran(told) => *told,
-        _ => standing,
-    }
+// The reply of a call that fills a row; a refusal has to leave the row as it was.
+fn reply_by_row<F: FnOnce(&mut [u8]) -> Result<(), Refusal>>(
+    heap: Global,
+    parts: usize,
+    fill: F,
+) -> Result<Reply, AllocError>
+    requires { F.IsAlwaysCallable fill }
+{
+    let mut row = vec![in heap; UNTOUCHED; parts]?;
+    Ok(match fill(&mut row) {
+        Ok(()) => Ok(Answer::Codes(row)),
+        Err(refusal) if row.iter().all(|code| *code == UNTOUCHED) => Err(Unanswered::from(refusal)),
+        Err(refusal) => Err(Unanswered::Spoiled(u8::from(refusal))),
+    })
 }

@@ -1,7 +1,5 @@
 -- The working rule of a turn, step by step.
-use Rattle.std.proofs.Common.{◌≡◌, ℕ, zero, suc, ◌+◌, ◌-◌, ◌<◌, Bool, true, false, ◌&&◌, eqb, List, [], ◌∷◌, map, length, get_or, drop, set, is_some, Some, None, Option, sym, refl, ap, ◌∙◌, add-one, arith}
-use Rattle.std.proofs.lemmas.List.{at_drop_more}
-use Rattle.std.proofs.lemmas.Option.{slice_get-get_or}
+use Rattle.std.proofs.Common.{◌≡◌, ℕ, zero, suc, ◌+◌, ◌-◌, Bool, true, false, ◌&&◌, eqb, List, [], ◌∷◌, map, length, get_or, set, is_some, Some, None, Option, sym, refl, ap, ◌∙◌, arith}
 use Rattle.std.proofs.lemmas.Bool.Decides.{nat_tests}
 use Rattle.std.specs.List.{slice_get}
 use Rattle.std.specs.Option.{option_map}
@@ -19,6 +17,8 @@ use Rattle.search.specs.declared.Kind.TheVariants.{Held, Picked, Forced}
 use Rattle.search.specs.declared.Reason.{Reason}
 use Rattle.search.specs.Machine.{lesson, marks_at, resolve, worked, is_picked, Outcome, stop, turn}
 use Rattle.search.specs.Trail.{Row, Trail, is_side, names_mark, enter, leave}
+use Rattle.search.proofs.Basics.{clash}
+use Rattle.trail.proofs.Walking.{onward, onward_at}
 use Rattle.scan.specs.Scan.{rule_in}
 use Rattle.trail.specs.Stacks.{newest, older}
 
@@ -48,20 +48,20 @@ code_not_0 Out = refl
 -- what the questions tell of a rule
 pub no_rule : (o : Option Rule) → None ≡ option_map length o → o ≡ None
 no_rule None e = refl
-no_rule (Some r) e = let z : ◌≡◌ {A = ℕ} 0 1 = cc in absurd (omega arith)
+no_rule (Some r) e = absurd (clash (cc))
 
 pub some_rule : (o : Option Rule) (n : ℕ) → Some n ≡ option_map length o → (true ≡ is_some o) × (n ≡ length (marks_at o))
-some_rule None n e = let z : ◌≡◌ {A = ℕ} 0 1 = cc in absurd (omega arith)
+some_rule None n e = absurd (clash (cc))
 some_rule (Some r) n e = (refl, cc)
 
-pub mark_next : (o : Option Rule) (k : ℕ) (d : Mark) → k < length (marks_at o) → then_at o (λ r. at_place r (k + 1)) ≡ Some (get_or (marks_at o) k d)
-mark_next None k d h = absurd (omega arith)
-mark_next (Some r) k d h = ap (at_place r) (add-one k) ∙ slice_get-get_or r k d h
+pub mark_there : (o : Option Rule) (k n : ℕ) → Some n ≡ option_map length o → then_at o (λ r. at_place r k) ≡ at_place (marks_at o) k
+mark_there None k n e = absurd (clash (cc))
+mark_there (Some r) k n e = refl
 
 -- one mark more is written
-pub enter_next : (c : Row) (r : Rule) (k : ℕ) (m : Mark) → k < length r → m ≡ get_or r k m → enter (set c (m.part - 1) (code_of m.side)) (drop (k + 1) r) ≡ enter c (drop k r)
+pub enter_next : (c : Row) (r : Rule) (k : ℕ) (m : Mark) → at_place r k ≡ Some m → enter (set c (m.part - 1) (code_of m.side)) (onward (k + 1) r) ≡ enter c (onward k r)
 unfolding enter
-enter_next c r k m h is = ap (λ x. enter (set c (x.part - 1) (code_of x.side)) (drop (k + 1) r)) is ∙ sym (at_drop_more (enter c) r k m h)
+enter_next c r k m e = sym (onward_at (enter c) r k m e)
 
 -- the rule that a reason speaks of stands in the book's or the shelf's list
 pub book_rule : (rs : List Rule) (i : ℕ) → rule_in (map Some rs) i ≡ at_place rs i
@@ -86,18 +86,18 @@ shelf_rule rows (suc i) = by rows i
 -- a part is resolved where there is such a rule
 pub resolve_some : (p : ℕ) (c : Row) (o : Option Rule) → is_some o ≡ true → set (enter c (marks_at o)) (p - 1) 0 ≡ resolve p c o
 unfolding resolve leave
-resolve_some p c None e = let z : ◌≡◌ {A = ℕ} 0 1 = cc in absurd (omega arith)
+resolve_some p c None e = absurd (clash (cc))
 resolve_some p c (Some r) e = refl
 
 pub resolve_none : (p : ℕ) (c : Row) (o : Option Rule) → is_some o ≡ false → enter c (marks_at o) ≡ resolve p c o
 unfolding resolve enter
 resolve_none p c None e = refl
-resolve_none p c (Some r) e = let z : ◌≡◌ {A = ℕ} 0 1 = cc in absurd (omega arith)
+resolve_none p c (Some r) e = absurd (clash (cc))
 
 -- an empty trail has no newest entry
 pub emptied : (t : Trail) → None ≡ newest t → t ≡ []
 emptied [] n = refl
-emptied (x ∷ t) n = let z : ◌≡◌ {A = ℕ} 0 1 = cc in absurd (omega arith)
+emptied (x ∷ t) n = absurd (clash (cc))
 
 -- the newest entry is taken off: it is passed where the row does not name its opposite, else it counts by its kind
 module _ (at : Reason → Option Rule) (c : Row) (t rest : Trail) (e : Entry) (top : Some e ≡ newest t) (left : rest ≡ older t) where
@@ -109,7 +109,7 @@ module _ (at : Reason → Option Rule) (c : Row) (t rest : Trail) (e : Entry) (t
   one = ap (turn at c) (popped t top left)
     where
       popped : (t : Trail) → Some e ≡ newest t → rest ≡ older t → t ≡ e ∷ rest
-      popped [] n o = let z : ◌≡◌ {A = ℕ} 0 1 = cc in absurd (omega arith)
+      popped [] n o = absurd (clash (cc))
       popped (x ∷ t) n o = cc
 
   pub turn_past : names_mark c (opposite_of e.mark) ≡ false → turn at c t ≡ turn at c rest

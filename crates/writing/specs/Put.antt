@@ -1,22 +1,22 @@
--- What a page holds, and what it holds when more is put on it.
-use Rattle.std.specs.Prelude.{ℕ, cond, List, [], ◌++◌, length, take, Some, None, Option, nat_lt}
+-- What is put on a page, and when there is no room for it.
+use Rattle.std.specs.Prelude.{◌≡◌, ℕ, ◌+◌, ◌<◌, List, [], ◌∷◌, ◌++◌, length, Result, MatchResult}
+use Rattle.std.specs.List.{flat_map}
 use Rattle.std.specs.Option.{unwrap_or}
+use Rattle.parts.specs.declared.Mark.{Mark}
 use Rattle.parts.specs.Lists.{at_place}
 use Rattle.book.specs.Meaning.{Rule}
-use Rattle.writing.specs.declared.page.Page.{Page}
+use Rattle.grammar.specs.Writing.{mark_field}
 
--- a text, if a page has room for it
-abbrev pub fitting : List ℕ → Option (List ℕ)
-fitting text = cond (nat_lt 60000 (length text)) None (Some text)
+-- the piece follows what stood on the page, or the page has no room for both
+abbrev pub Puts : {E : Type 0} → List ℕ → List ℕ → List ℕ → Result (Unit {0}) E → Type 0
+Puts piece before after r = MatchResult r (λ _. after ≡ before ++ piece) (λ _. 60000 < length before + length piece)
 
--- the bytes put so far, unless one of them found no room
-unfoldable pub held : Page → Option (List ℕ)
-held p = cond p.full None (Some (take p.len p.bytes))
+-- a mark and a space
+abbrev pub spaced_mark : Mark → List ℕ
+spaced_mark m = mark_field m ++ 32 ∷ []
 
--- what a page holds after it, if there is room for both
-unfoldable pub grown : Option (List ℕ) → List ℕ → Option (List ℕ)
-grown None more = None
-grown (Some text) more = fitting (text ++ more)
+abbrev pub marks_text : Rule → List ℕ
+marks_text r = flat_map spaced_mark r
 
 -- a rule by its number, counted from 1; where there is none, it has no marks
 abbrev pub rule_at : List Rule → ℕ → Rule

@@ -8,11 +8,10 @@ ghost use Rattle.grammar.specs.Writing.{written_of};
 ghost use Rattle.writing.specs.Over.{few, told, over};
 
 use book::Book;
-use page::Page;
 use parts::limits::{MOST_TEXT_MARKS, MOST_TEXT_RULES};
 use parts::refusals::Refusal;
+use put::{Page, put_book};
 
-mod page;
 mod put;
 
 // Writes a book's text into the front of the buffer, and tells its length; a refusal leaves the buffer as it was.
@@ -27,15 +26,15 @@ pub fn write<B: Book>(book: &B, buffer: &mut [u8]) -> Result<usize, Refusal>
     let Some(_) = count_marks(book) else {
         return Err(Refusal::NotWritable);
     };
-    let mut page = Page::empty();
-    page.put_book(book);
-    let Some(text) = page.text() else {
+    let mut page = Page::new();
+    let Ok(()) = put_book(&mut page, book) else {
         return Err(Refusal::NotWritable);
     };
+    let text = page.as_str().as_bytes();
     if text.len() > buffer.len() {
         return Err(Refusal::NotWritable);
     }
-    buffer[0..text.len()].copy_from_slice(text);
+    buffer[..text.len()].copy_from_slice(text);
     Ok(text.len())
 }
 
@@ -44,12 +43,9 @@ pub fn count_marks<B: Book>(book: &B) -> Option<usize>
     ensures { result ≡ few (count_marks (B.Book.meaning book.now).rules) }
 {
     let mut left = MOST_TEXT_MARKS;
-    for i in 0..book.rules() {
-        let marks = book.marks(i + 1).unwrap_or(0);
-        if marks > left {
-            return None;
-        }
-        left -= marks;
+    for rule in 1..=book.rules() {
+        let marks = book.marks(rule).unwrap_or(0);
+        left = left.checked_sub(marks)?;
     }
     Some(MOST_TEXT_MARKS - left)
 }

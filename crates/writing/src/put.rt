@@ -1,110 +1,77 @@
-// What is put on a page, piece by piece; a page that was too short for one of them remembers it.
-ghost use Rattle.std.specs.Prelude.{◌≡◌, [], ◌∷◌, Some, decimal};
-ghost use Rattle.std.specs.Option.{option_map};
-ghost use Rattle.grammar.specs.Writing.{mark_field, rule_line, head_line, text_of};
-ghost use Rattle.writing.specs.Put.{held, grown, rule_at};
+// What is put on a page, piece by piece; a piece that finds no room is an error.
+ghost use Rattle.std.specs.Prelude.{◌≡◌, decimal};
+ghost use Rattle.grammar.specs.Writing.{rule_line, head_line, text_of};
+ghost use Rattle.writing.specs.Put.{Puts, spaced_mark, marks_text, rule_at};
 
-use crate::page::Page;
+use arrayvec::ArrayString;
 use book::Book;
+use itoa::Buffer;
 use parts::limits::MOST_TEXT_BYTES;
 use parts::{Mark, Side};
+use std::fmt::{self, Write};
 
-impl Page {
-    // A page with nothing on it.
-    pub fn empty() -> Page
-        ensures { held result ≡ Some [] }
-    {
-        Page {
-            bytes: [0; MOST_TEXT_BYTES],
-            len: 0,
-            full: false,
+// A page that takes the text of a book.
+pub(crate) type Page = ArrayString<MOST_TEXT_BYTES>;
+
+// The number's decimal digits.
+// Stays without write!, as does a mark below: a failure has to mean that there is no room, which write! does not promise.
+fn put_number(page: &mut Page, number: usize) -> fmt::Result
+    ensures { Puts (decimal number) page.old.bytes page.new.bytes result }
+{
+    let mut buffer = Buffer::new();
+    page.write_str(buffer.format(number))
+}
+
+// The mark's part, with a minus before it for out, and a space after it.
+fn put_mark(page: &mut Page, mark: Mark) -> fmt::Result
+    ensures { Puts (spaced_mark mark) page.old.bytes page.new.bytes result }
+{
+    if let Side::Out = mark.side {
+        page.write_str("-")?;
+    }
+    put_number(page, mark.part)?;
+    page.write_str(" ")
+}
+
+// Each mark of a rule.
+// Stays page and book side by side: three short functions, of which one alone has a loop over the other.
+fn put_marks<B: Book>(page: &mut Page, book: &B, rule: usize) -> fmt::Result
+    ensures { Puts (marks_text (rule_at (B.Book.meaning book.now).rules rule)) page.old.bytes page.new.bytes result }
+{
+    for place in 1..=book.marks(rule).unwrap_or(0) {
+        if let Some(mark) = book.mark(rule, place) {
+            put_mark(page, mark)?;
         }
     }
+    Ok(())
+}
 
-    // All that was put on the page, if there was room for it.
-    pub fn text(&self) -> Option<&[u8]>
-        ensures { option_map (λ x. x.now) result ≡ held self.now }
-    {
-        if self.full {
-            None
-        } else {
-            Some(&self.bytes[0..self.len])
-        }
-    }
+// The line of a rule: its marks, then a 0.
+fn put_rule<B: Book>(page: &mut Page, book: &B, rule: usize) -> fmt::Result
+    ensures { Puts (rule_line (rule_at (B.Book.meaning book.now).rules rule)) page.old.bytes page.new.bytes result }
+{
+    put_marks(page, book, rule)?;
+    page.write_str("0\n")
+}
 
-    // One byte, or a note that there is no room for it.
-    fn put(&mut self, byte: u8)
-        ensures { held self.new ≡ grown (held self.old) (byte ∷ []) }
-    {
-        if self.len == MOST_TEXT_BYTES {
-            self.full = true;
-        } else {
-            self.bytes[self.len] = byte;
-            self.len += 1;
-        }
-    }
+// The head: how many parts and rules there are.
+fn put_head(page: &mut Page, n: usize, rules: usize) -> fmt::Result
+    ensures { Puts (head_line n rules) page.old.bytes page.new.bytes result }
+{
+    page.write_str("p cnf ")?;
+    put_number(page, n)?;
+    page.write_str(" ")?;
+    put_number(page, rules)?;
+    page.write_str("\n")
+}
 
-    // The bytes of a text, one after the other.
-    fn put_all(&mut self, text: &[u8])
-        ensures { held self.new ≡ grown (held self.old) text.now }
-    {
-        for byte in text {
-            self.put(*byte);
-        }
+// The head, and the line of each rule.
+pub(crate) fn put_book<B: Book>(page: &mut Page, book: &B) -> fmt::Result
+    ensures { Puts (text_of (B.Book.meaning book.now)) page.old.bytes page.new.bytes result }
+{
+    put_head(page, book.n(), book.rules())?;
+    for rule in 1..=book.rules() {
+        put_rule(page, book, rule)?;
     }
-
-    // The number's decimal digits.
-    fn put_number(&mut self, number: usize)
-        ensures { held self.new ≡ grown (held self.old) (decimal number) }
-    {
-        if number >= 10 {
-            self.put_number(number / 10);
-        }
-        self.put(b'0' + (number % 10) as u8);
-    }
-
-    // The mark's part, with a minus before it for out.
-    fn put_mark(&mut self, mark: Mark)
-        ensures { held self.new ≡ grown (held self.old) (mark_field mark) }
-    {
-        if let Side::Out = mark.side {
-            self.put(b'-');
-        }
-        self.put_number(mark.part);
-    }
-
-    // The line of a rule: each mark and a space, then a 0.
-    fn put_rule<B: Book>(&mut self, book: &B, rule: usize)
-        ensures { held self.new ≡ grown (held self.old) (rule_line (rule_at (B.Book.meaning book.now).rules rule)) }
-    {
-        for i in 0..book.marks(rule).unwrap_or(0) {
-            if let Some(mark) = book.mark(rule, i + 1) {
-                self.put_mark(mark);
-                self.put(b' ');
-            }
-        }
-        self.put_all(b"0\n");
-    }
-
-    // The head: how many parts and rules there are.
-    fn put_head(&mut self, n: usize, rules: usize)
-        ensures { held self.new ≡ grown (held self.old) (head_line n rules) }
-    {
-        self.put_all(b"p cnf ");
-        self.put_number(n);
-        self.put(b' ');
-        self.put_number(rules);
-        self.put(b'\n');
-    }
-
-    // The head, and the line of each rule.
-    pub fn put_book<B: Book>(&mut self, book: &B)
-        ensures { held self.new ≡ grown (held self.old) (text_of (B.Book.meaning book.now)) }
-    {
-        let rules = book.rules();
-        self.put_head(book.n(), rules);
-        for i in 0..rules {
-            self.put_rule(book, i + 1);
-        }
-    }
+    Ok(())
 }

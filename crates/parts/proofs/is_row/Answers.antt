@@ -1,20 +1,11 @@
-use Rattle.std.proofs.Common.{sym, ◌∙◌, arith}
-use Rattle.std.proofs.lemmas.List.{at_drop_more, at_drop_all}
+use Rattle.std.proofs.Common.{arith, rules, tests}
+use Rattle.std.specs.Prelude.{nat_le}
+use Rattle.std.proofs.lemmas.Iterator.{YieldsList-from_slice}
+use Rattle.std.proofs.lemmas.Iterator.Search.{all_from_yields_List}
 use Rattle.std.proofs.lemmas.Bool.Decides.{nat_tests}
-use Rattle.parts.specs.Codes.{all_codes}
 use Rattle.parts.proofs.is_row.Goals as goal
 
-pub returns-then-code-gt2 : goal.returns-then-code-gt2
-returns-then-code-gt2 c =
-    let e = sym c.loop-code.invariant ∙ at_drop_more all_codes _ _ 0 c.loop-code-test.true in
-    grind (arith, nat_tests)
-
-pub loop-code-preserved : goal.loop-code-preserved
-loop-code-preserved c =
-    let e = at_drop_more all_codes _ _ 0 c.loop-code-test.true in
-    grind (arith, nat_tests)
-
-pub returns : goal.returns
-returns c =
-    let e = sym c.loop-code.invariant ∙ at_drop_all all_codes _ _ c.loop-code-test.false in
+pub returns-then-codes-n : goal.returns-then-codes-n
+returns-then-codes-n c =
+    let few = all_from_yields_List (λ code. nat_le code 2) _ _ c.all.result c.all.ensures.ran (YieldsList-from_slice c.args.codes.now cc) (λ x b q k. search (rules, tests)) in
     grind (arith, nat_tests)

@@ -63,10 +63,5 @@ impl<B: Book, P: Picker, S: Shelf> Session<B, P, S> {
 fn all_settled(row: &[u8]) -> bool
     ensures { result ≡ all_settled row.now }
 {
-    for code in row {
-        if *code == 0 {
-            return false;
-        }
-    }
-    true
+    row.iter().all(|code| *code != 0)
 }

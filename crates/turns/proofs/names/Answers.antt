@@ -1,18 +1,23 @@
-use Rattle.std.proofs.Common.{eqb, sym, ap, ◌∙◌}
-use Rattle.std.proofs.lemmas.List.{get_or_past}
+use Rattle.std.proofs.Common.{◌≡◌, ℕ, false, eqb, get_or, Some, None, Option, refl, sym, ap, ◌∙◌, rules, tests, arith}
+use Rattle.std.specs.Option.{option_map, option_map_or, unwrap_or}
 use Rattle.parts.specs.Codes.{code_of}
+use Rattle.parts.specs.declared.Side.{Side}
 use Rattle.turns.proofs.Working.{names_code, names_none, code_not_0}
 use Rattle.turns.proofs.names.Goals as goal
 
-pub returns-then-mark-eq0 : goal.returns-then-mark-eq0
-returns-then-mark-eq0 c = sym (names_none _ _ c.if-mark-eq0.true)
+pub returns-in_default : goal.returns-in_default
+returns-in_default c = sym (names_none _ _ (let k = c.in_default.ensures in omega (arith, k)))
 
-pub returns-in-Some : goal.returns-in-Some
-returns-in-Some c =
-    let here = c.in-Some.ensures.lookup.3.1 0 in
-    ap (λ x. eqb x c.code.result) here ∙ ap (eqb _) c.code.ensures ∙ sym (names_code c.args.row.now c.args.mark c.if-mark-eq0.false)
+-- an absent code is as 0, which is no side's
+absent_is_0 : {X : Type 0} (now : X → ℕ) (s : Side) (o : Option X) → option_map_or (λ x. eqb (now x) (code_of s)) o false ≡ eqb (unwrap_or (option_map now o) 0) (code_of s)
+absent_is_0 now s None = sym (code_not_0 s)
+absent_is_0 now s (Some x) = refl
 
-pub returns-in-None : goal.returns-in-None
-returns-in-None c =
-    let past = get_or_past c.args.row.now _ 0 c.in-None.ensures.lookup.3 in
-    sym (names_code c.args.row.now c.args.mark c.if-mark-eq0.false ∙ ap (λ x. eqb x (code_of c.args.mark.side)) past ∙ code_not_0 c.args.mark.side)
+pub returns : goal.returns
+returns c =
+    let s = c.args.mark.side in
+    let k = c.in-Some.ensures in
+    let asked : c.is_some_and.result ≡ option_map_or (λ x. eqb x.now (code_of s)) c.get.result false = search (rules, tests) in
+    let there = c.get.ensures.lookup.4 (omega arith) 0 in
+    asked ∙ absent_is_0 (λ x. x.now) s c.get.result ∙ ap (λ x. eqb x (code_of s)) there ∙ ap (λ i. eqb (get_or c.args.row.now i 0) (code_of s)) k.1
+    ∙ sym (names_code c.args.row.now c.args.mark (omega (arith, k.0)))

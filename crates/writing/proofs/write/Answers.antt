@@ -1,4 +1,4 @@
-use Rattle.std.proofs.Common.{length, ap, ◌∙◌, arith, rules}
+use Rattle.std.proofs.Common.{◌≤◌, length, ap, ◌∙◌, arith, rules}
 use Rattle.std.proofs.lemmas.List.{take_at}
 use Rattle.grammar.specs.Reading.{read_of}
 use Rattle.grammar.proofs.Back.{writing_reads_back}
@@ -15,22 +15,23 @@ returns-in_default g c =
     let e = many_marks (length c.args.buffer.now) (g.B.Book.meaning c.args.book.now) c.in_default.ensures in
     search rules
 
-pub returns-in_default-text : goal.returns-in_default-text
-returns-in_default-text g c =
-    let e = page_short (length c.args.buffer.now) (g.B.Book.meaning c.args.book.now) c.empty-page.ensures c.put_book.ensures c.in_default-text.ensures in
+pub returns-in_default-put_book : goal.returns-in_default-put_book
+returns-in_default-put_book g c =
+    let e = page_short (length c.args.buffer.now) (g.B.Book.meaning c.args.book.now) c.new-page.ensures c.in_default-put_book.ensures in
     search rules
 
 pub returns-then-text-buffer : goal.returns-then-text-buffer
 returns-then-text-buffer g c =
-    let e = page_long (length c.args.buffer.now) (g.B.Book.meaning c.args.book.now) c.empty-page.ensures c.put_book.ensures c.in-Some-text.text.now c.in-Some-text.ensures (omega arith) in
+    let e = page_long (length c.args.buffer.now) (g.B.Book.meaning c.args.book.now) c.new-page.ensures (c.as_bytes-text.ensures.value ∙ c.as_str.ensures.value ∙ c.in-Ok.ensures) c.if-text-buffer.true in
     search rules
 
 pub returns : goal.returns
 returns g c =
-    let text = c.in-Some-text.text.now in
+    let text = c.as_bytes-text.result.now in
     let buffer = c.args.buffer.now in
-    let e = page_copied (length buffer) (g.B.Book.meaning c.args.book.now) c.empty-page.ensures c.put_book.ensures text c.in-Some-text.ensures (omega arith) _ c.in-Some.ensures (omega arith) in
     let b = g.B.Book.meaning c.args.book.now in
+    let short : length text ≤ 60000 = omega (arith, ap length c.as_bytes-text.ensures.value, c.as_str.ensures.fits) in
+    let e = page_copied (length buffer) b c.new-page.ensures (c.as_bytes-text.ensures.value ∙ c.as_str.ensures.value ∙ c.in-Ok.ensures) short (omega arith) _ c.in-Some.ensures (omega arith) in
     record {
       reply = search rules;
       back = λ marks ends room.

@@ -1,7 +1,7 @@
-use Rattle.std.proofs.Common.{◌≡◌, ◌-◌, length, drop}
+use Rattle.std.proofs.Common.{◌≡◌, length}
 use Rattle.search.specs.Machine.{named_holds}
-use Rattle.holds.specs.Holding.{holds_of}
+use Rattle.holds.proofs.Naming.{read}
 use Rattle.holds.proofs.Holds.name_into.Given as goal
 
-abbrev pub invariant-loop-i : goal.invariant-loop-i
-invariant-loop-i l = l.named ≡ named_holds (length l.named) l.work (drop (l.self.len - l.i) (holds_of l.self))
+abbrev pub invariant-loop-hold : goal.invariant-loop-hold
+invariant-loop-hold l = l.named ≡ named_holds (length l.named) l.work (read l.yielded)

@@ -1,13 +1,13 @@
-use Rattle.std.proofs.Common.{length, sym, ◌∙◌, arith}
+use Rattle.std.proofs.Common.{◌+◌, length, refl, arith, rules, tests}
+use Rattle.std.specs.Prelude.{◌==◌}
+use Rattle.std.proofs.lemmas.Iterator.{YieldsList-from_range}
+use Rattle.std.proofs.lemmas.Iterator.Search.{all_from_yields_List}
 use Rattle.std.proofs.lemmas.Bool.Decides.{nat_tests}
-use Rattle.picker.proofs.Ranks.{once_more, not_once}
+use Rattle.picker.specs.Ranking.{times}
 use Rattle.picker.proofs.ranked.is_ranked.Goals as goal
 
-pub returns-then-times_named-ne1 : goal.returns-then-times_named-ne1
-returns-then-times_named-ne1 c =
-    let ms = c.args.list.now in
-    let e = not_once ms (length ms) c.loop-i.i c.loop-i-test.true (λ h. c.if-times_named-ne1.true (c.times_named.ensures ∙ h)) in
+pub returns-then-n-le-MOST_PARTS : goal.returns-then-n-le-MOST_PARTS
+returns-then-n-le-MOST_PARTS c =
+    let n = length c.args.list.now in
+    let once = all_from_yields_List (λ part. times c.args.list.now part == 1) _ _ c.all.result c.all.ensures.ran (YieldsList-from_range 1 (n + 1) n refl (omega arith)) (λ x b q k. search (rules, tests)) in
     grind (arith, nat_tests)
-
-pub loop-i-preserved : goal.loop-i-preserved
-loop-i-preserved c = once_more _ _ (sym c.times_named.ensures ∙ c.if-times_named-ne1.false) c.loop-i.invariant

@@ -1,14 +1,14 @@
-use Rattle.std.proofs.Common.{◌≡◌, ◌+◌, ◌-◌, ◌≤◌, [], length, drop}
+use Rattle.std.proofs.Common.{◌≡◌, [], length}
 use Rattle.book.specs.Meaning.{Rule}
-use Rattle.grammar.specs.Pieces.{fields}
 use Rattle.grammar.specs.Reading.{rule_of}
-use Rattle.reading.specs.Checks.{Shows}
+use Rattle.reading.specs.Named.{Shows}
+use Rattle.reading.specs.Pieces.{fields_left}
 use Rattle.reading.proofs.checking.check_rule.Given as goal
 
-abbrev pub invariant-loop-span : goal.invariant-loop-span
-invariant-loop-span l =
-    (l.at ≤ length l.line) × (l.place.used + l.seen.count ≤ 16000)
-    × ((marks : Rule) × Shows l.seen marks × (rule_of l.room l.place marks (fields l.at (drop l.at l.line)) ≡ rule_of l.room l.place [] (fields 0 l.line)))
+abbrev pub invariant-loop-field : goal.invariant-loop-field
+invariant-loop-field l =
+    (l.open.room ≡ l.initial.open.room) × (l.open.place ≡ l.initial.open.place)
+    × ((marks : Rule) × Shows l.open marks × (rule_of l.open.room l.open.place marks (fields_left l.fields) ≡ rule_of l.initial.open.room l.initial.open.place [] (fields_left l.initial.fields)))
 
-abbrev pub decreases-loop-span : goal.decreases-loop-span
-decreases-loop-span l = length l.line - l.at
+abbrev pub decreases-loop-field : goal.decreases-loop-field
+decreases-loop-field l = length (fields_left l.fields)

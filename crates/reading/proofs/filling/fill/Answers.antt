@@ -1,60 +1,56 @@
-use Rattle.std.proofs.Common.{◌+◌, ◌<◌, ◌≤◌, length, nat_abs, refl, arith, rules}
+use Rattle.std.proofs.Common.{◌≡◌, ◌≤◌, true, nat_abs, refl, ◌∙◌, arith, rules}
 use Rattle.std.proofs.ByRecursion.{All-weaker}
-use Rattle.std.specs.List.{between}
-use Rattle.grammar.specs.Pieces.{fields}
-use Rattle.reading.specs.Fills.{stored}
-use Rattle.reading.proofs.FillSteps.{room_in, Fills, Takes, fills_none, fills_skip, fills_rule, fills_more, fills_as, rule_length, marks_room, ends_room, fills_all}
+use Rattle.std.proofs.lemmas.List.{set-get_or}
+use Rattle.reading.specs.Pieces.{counts, piece_of, all_lines, lines_left, text_end}
+use Rattle.reading.proofs.Counting.{head_counts}
+use Rattle.reading.proofs.FillSteps.{room_in, Fills, Takes, fills_none, fills_rule, fills_more, rule_length, marks_room, none_lines, none_ends, fills_all}
 use Rattle.reading.proofs.filling.fill.Goals as goal
-use Rattle.reading.proofs.filling.fill.Goals.{In-Some, in-Some, in_default}
+use Rattle.reading.proofs.filling.fill.Goals.{In-Some}
+
+pub loop-end-init : goal.loop-end-init
+loop-end-init c = let h = c.args.head in λ rs e. fills_none (room_in h.size.n c.args.marks.now c.args.ends.now) (text_end h.rules) h.size.m rs _ _ h.rules refl refl e
+
+pub returns-in_default-clause-marks : goal.returns-in_default-clause-marks
+returns-in_default-clause-marks c = λ rs e. let f = c.loop-end.invariant rs e in (fills_all _ _ _ _ _ _ _ _ _ _ _ f (none_lines _ _ _ _ _ _ _ _ _ _ _ f c.in_default.ensures.steps.0.0)).0
+
+pub returns-in_default-clause-ends : goal.returns-in_default-clause-ends
+returns-in_default-clause-ends c = λ rs e. let f = c.loop-end.invariant rs e in set-get_or _ _ _ ∙ (fills_all _ _ _ _ _ _ _ _ _ _ _ f (none_lines _ _ _ _ _ _ _ _ _ _ _ f c.in_default.ensures.steps.0.0)).1
+
+pub returns-clause-marks : goal.returns-clause-marks
+returns-clause-marks c = λ rs e. let f = c.loop-end.invariant rs e in (fills_all _ _ _ _ _ _ _ _ _ _ _ f (none_ends _ _ _ _ _ _ _ _ _ _ _ f (omega arith))).0
+
+pub returns-clause-ends : goal.returns-clause-ends
+returns-clause-ends c = λ rs e. let f = c.loop-end.invariant rs e in (fills_all _ _ _ _ _ _ _ _ _ _ _ f (none_ends _ _ _ _ _ _ _ _ _ _ _ f (omega arith))).1
 
 -- the tables as the line finds them, and what it stores
-fills : (c : In-Some) → Fills (room_in c.args.head.size.n c.args.marks.now c.args.ends.now) c.args.text.now c.args.head.size.m c.requires.reads.0 c.args.marks.now c.args.ends.now c.loop-at.at c.loop-at.done c.loop-at.used c.loop-at.marks c.loop-at.ends
-fills c = c.loop-at.invariant c.args.head.size.n c.args.head.size.m c.requires.reads.0 c.requires.reads.1
+fills : (c : In-Some) → Fills (room_in c.args.head.size.n c.args.marks.now c.args.ends.now) (text_end c.args.head.rules) c.args.head.size.m c.requires.0 c.args.marks.now c.args.ends.now (lines_left c.loop-end.lines) c.loop-end.end-index c.loop-end.used c.loop-end.marks c.loop-end.ends
+fills c = c.loop-end.invariant c.requires.0 c.requires.1
 
-takes : (c : In-Some) → Takes _ _ _ _ _ _ _ _ _ c.run_end-end.result _ _ (fills c) c.loop-at-test.true c.run_end-end.ensures.value (between c.loop-at.at c.run_end-end.result c.args.text.now)
-takes c = fills_rule _ _ _ _ _ _ _ _ _ c.run_end-end.result _ _ (fills c) c.loop-at-test.true c.run_end-end.ensures.value c.in-Some.field-0 c.in-Some.ensures
+counts_here : (c : In-Some) → counts (piece_of c.in-Some.line) ≡ true
+counts_here c = head_counts (all_lines c.loop-end.lines) (piece_of c.in-Some.line) (lines_left c.next.new.self) c.in-Some.ensures.steps.0
 
-used_few : (c : In-Some) → c.loop-at.used + length (stored (fields 0 (between c.loop-at.at c.run_end-end.result c.args.text.now))) ≤ 16000
-used_few c = omega (arith, (takes c).few, rule_length _ _ _ _ _ _ _ _ _ c.run_end-end.result _ _ (fills c) c.loop-at-test.true c.run_end-end.ensures.value _ (takes c))
+takes : (c : In-Some) → Takes _ _ _ _ _ _ _ _ _ _ _ (fills c) (piece_of c.in-Some.line) (lines_left c.next.new.self) c.in-Some.ensures.steps.0
+takes c = fills_rule _ _ _ _ _ _ _ _ _ _ _ (fills c) _ _ _ (counts_here c)
 
-ends_few : (c : In-Some) → c.loop-at.done < length c.loop-at.ends
-ends_few c = ends_room _ _ _ _ _ _ _ _ _ c.run_end-end.result _ _ (fills c) c.loop-at-test.true c.run_end-end.ensures.value _ (takes c)
+pub fill_rule-used-requires-clause-small : goal.fill_rule-used-requires-clause-small
+fill_rule-used-requires-clause-small c =
+    let range = c.args.head.range in
+    All-weaker (λ z. nat_abs z ≤ c.args.head.size.n) (λ z. nat_abs z ≤ 120) (λ z h. omega (arith, range.1)) _ (takes (goal.at.fill_rule-used-requires-clause-small c).In-Some).small
 
-pub loop-at-init : goal.loop-at-init
-loop-at-init c = λ n m rs e. fills_none (room_in n c.args.marks.now c.args.ends.now) c.args.text.now m rs _ _ c.args.head.next refl refl e
+pub fill_rule-used-requires-clause-room : goal.fill_rule-used-requires-clause-room
+fill_rule-used-requires-clause-room c = let d = (goal.at.fill_rule-used-requires-clause-room c).In-Some in marks_room _ _ _ _ _ _ _ _ _ _ _ (fills d) _ _ _ (takes d)
 
-pub fill_rule-used-requires : goal.fill_rule-used-requires
-fill_rule-used-requires c =
-    let d = (goal.at.fill_rule-used-requires c).In-Some in
-    record {
-      small = All-weaker (λ z. nat_abs z ≤ c.args.head.size.n) (λ z. nat_abs z ≤ 120) (λ z h. omega (arith, c.requires.small)) _ (takes d).small;
-      room = marks_room _ _ _ _ _ _ _ _ _ c.run_end-end.result _ _ (fills d) c.loop-at-test.true c.run_end-end.ensures.value _ (takes d);
-    }
+pub overflow_cast-end : goal.overflow_cast-end
+overflow_cast-end c =
+    let d = (goal.at.overflow_cast-end c).In-Some in
+    let t = takes d in
+    let few : c.fill_rule-used.result ≤ 16000 = omega (arith, t.few, rule_length _ _ _ _ _ _ _ _ _ _ _ (fills d) _ _ _ t, c.fill_rule-used.ensures.value) in
+    search rules
 
-pub overflow_cast-ends : goal.overflow_cast-ends
-overflow_cast-ends c = let h = used_few (goal.at.overflow_cast-ends c).In-Some in let e = c.fill_rule-used.ensures.value in search rules
-
-pub offset_bounds-ends-done : goal.offset_bounds-ends-done
-offset_bounds-ends-done c = let h = ends_few (goal.at.offset_bounds-ends-done c).In-Some in search rules
-
-pub bounds-ends-done : goal.bounds-ends-done
-bounds-ends-done c = ends_few (goal.at.bounds-ends-done c).In-Some
-
-pub overflow_add-done : goal.overflow_add-done
-overflow_add-done c = let h = ends_few (goal.at.overflow_add-done c).In-Some in search rules
-
-pub loop-at-preserved : goal.loop-at-preserved
-loop-at-preserved c =
-    let end = c.run_end-end.result in
-    λ n m rs e.
-    let f = c.loop-at.invariant n m rs e in
-    elim c.match-first_field.branch [
-      | in-Some w ↦
-          let t = fills_rule _ _ _ _ _ _ _ _ _ end _ _ f c.loop-at-test.true c.run_end-end.ensures.value w.in-Some.field-0 w.in-Some.ensures in
-          fills_as _ _ _ _ _ _ w.done-is w.used-is w.marks-is w.ends-is
-          (fills_more _ _ _ _ _ _ _ _ _ end _ _ f c.loop-at-test.true c.run_end-end.ensures.value _ t w.fill_rule-used.result _ w.fill_rule-used.ensures.value w.fill_rule-used.ensures.front)
-      | in_default w ↦ fills_as _ _ _ _ _ _ w.done-is w.used-is w.marks-is w.ends-is (fills_skip _ _ _ _ _ _ _ _ _ end _ _ f c.loop-at-test.true c.run_end-end.ensures.value w.in_default.ensures)
-    ]
-
-pub returns : goal.returns
-returns c = record { marks = λ rs e. (fills_all _ _ _ rs _ _ _ _ _ _ _ (c.loop-at.invariant _ _ rs e) c.loop-at-test.false).0; ends = λ rs e. (fills_all _ _ _ rs _ _ _ _ _ _ _ (c.loop-at.invariant _ _ rs e) c.loop-at-test.false).1 }
+pub loop-end-preserved : goal.loop-end-preserved
+loop-end-preserved c =
+    let d = (goal.at.loop-end-preserved c).In-Some in
+    λ rs e.
+    let f = c.loop-end.invariant rs e in
+    let t = fills_rule _ _ _ _ _ _ _ _ _ _ _ f (piece_of c.in-Some.line) (lines_left c.next.new.self) c.in-Some.ensures.steps.0 (counts_here d) in
+    fills_more _ _ _ _ _ _ _ _ _ _ _ f _ _ _ t c.fill_rule-used.result _ c.fill_rule-used.ensures.value c.fill_rule-used.ensures.front

@@ -1,19 +1,13 @@
 use Rattle.std.proofs.Common.{◌≡◌, ℕ, List, length, ℤ, Ok, vec_items, sym, ap, ◌∙◌}
 use Rattle.std.proofs.lemmas.List.{with_items_is}
 use Rattle.std.proofs.lemmas.Result.{err_from_is_err_and}
-use Rattle.std.proofs.lemmas.Bool.{both_ways}
 use Rattle.std.specs.Vec.{with_items}
-use Rattle.book.specs.Tables.{lays, laid_rules}
+use Rattle.book.specs.Tables.{laid_rules}
+use Rattle.book.specs.declared.text.Tables.{Tables}
 use Rattle.grammar.specs.Reading.{read_of}
 use Rattle.reading.proofs.Replied.{fault_told}
 use Rattle.reading.proofs.loading.load.Goals as goal
 use Rattle.reading.proofs.loading.load.Goals.{After-read, After-lay}
-
-pub returns-in_err-marks : goal.returns-in_err-marks
-returns-in_err-marks c = let p = err_from_is_err_and c.from_residual.result c.from_residual.ensures.1 in rw (p.1, p.2) tt
-
-pub returns-in_err-ends : goal.returns-in_err-ends
-returns-in_err-ends c = let p = err_from_is_err_and c.from_residual-in_err-ends.result c.from_residual-in_err-ends.ensures.1 in rw (p.1, p.2) tt
 
 -- the tables are as long as was asked for
 marks_long : (c : After-read) → length c.deref_mut.result.now ≡ 16000
@@ -44,15 +38,9 @@ swapped f {ms} {ms'} {es} {es'} p q = ap (λ m. f m es) p ∙ ap (f ms') q
 same_laid : {n n' m m' : ℕ} {ms ms' : List ℤ} {es es' : List ℕ} → n ≡ n' → m ≡ m' → ms ≡ ms' → es ≡ es' → laid_rules n m ms es ≡ laid_rules n' m' ms' es'
 same_laid {n} {n'} {m} {m'} {ms} {ms'} {es} {es'} a b p q = ap (λ k. laid_rules k m ms es) a ∙ ap (λ k. laid_rules n' k ms es) b ∙ swapped (laid_rules n' m') p q
 
-pub unreachable-requires : goal.unreachable-requires
-unreachable-requires c =
-    let d = (goal.at.unreachable-requires c).After-lay in
-    let size = c.in_ok-size.size in
-    both_ways _ (sym (swapped (lays size.n size.m) (marks_are d) (ends_are d)) ∙ c.in-Err.ensures.0) c.in_ok-size.ensures.lays.0
-
 pub returns : goal.returns
 returns c =
     let d = (goal.at.returns c).After-lay in
     let e = c.in-Ok.ensures in
     full (goal.at.returns c).After-read ∙ c.in_ok-size.ensures.lays.1
-    ∙ ap Ok (sym (same_laid e.1 e.2 (ap vec_items e.3 ∙ marks_are d) (ap vec_items e.4 ∙ ends_are d)))
+    ∙ ap Ok (sym (same_laid e.1 e.2 (ap (λ (t : Tables). vec_items t.marks) e.3 ∙ marks_are d) (ap (λ (t : Tables). vec_items t.ends) e.3 ∙ ends_are d)))

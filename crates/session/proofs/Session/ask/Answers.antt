@@ -5,7 +5,8 @@ use Rattle.search.proofs.Settled.{length_row}
 use Rattle.search.specs.Machine.{asked, idle}
 use Rattle.search.specs.Trail.{row}
 use Rattle.trail.specs.Stacks.{trail_of}
-use Rattle.session.specs.View.{machine_of, verdict_of}
+use Rattle.session.specs.Standing.{verdict_of}
+use Rattle.session.specs.View.{machine_of}
 use Rattle.session.proofs.Machines.{same, picked_open}
 use Rattle.trail.proofs.Stacking.{row_front}
 use Rattle.session.proofs.Session.ask.Given.{Over}
@@ -28,7 +29,7 @@ pub settle-requires : goal.settle-requires
 settle-requires g c =
     let s = c.args.self.now in
     let a = shown g (goal.at.settle-requires g c).After-pick in
-    (c.requires.0, (c.requires.1, picked_open (g.P.Picker.meaning s.picker) (g.B.Book.meaning s.book).n (trail_of s.trail) c.in-Some.mark (g.P.Picker.sound s.picker) (sym c.in-Some.is ∙ a)))
+    (c.requires, picked_open (g.P.Picker.meaning s.picker) (g.B.Book.meaning s.book).n (trail_of s.trail) c.in-Some.mark (g.P.Picker.sound s.picker) (sym c.in-Some.is ∙ a))
 
 pub returns-in-Some : goal.returns-in-Some
 returns-in-Some g c =
@@ -41,6 +42,6 @@ returns-in-None g c =
     let s = c.args.self.now in
     let m = machine_of g.B.Book.meaning g.S.Shelf.meaning s in
     record {
-      after = same _ (idle m) refl refl refl refl (add-one s.steps) refl (ap (λ v. verdict_of (g.B.Book.meaning s.book).n v s.named) c.requires.0) ∙ ap (asked m) (sym c.in-None.is ∙ shown g (goal.at.returns-in-None g c).After-pick);
+      after = same _ (idle m) refl refl refl refl (add-one s.steps) refl (ap (verdict_of (g.B.Book.meaning s.book).n) c.requires.0) ∙ ap (asked m) (sym c.in-None.is ∙ shown g (goal.at.returns-in-None g c).After-pick);
       kept = (refl, refl, refl);
     }

@@ -1,35 +1,31 @@
-use Rattle.std.proofs.Common.{◌≡◌, Bool, not, length, take, None, Ok, sym, ap, ◌∙◌, arith}
-use Rattle.std.proofs.lemmas.Bool.{eq-eqb}
+use Rattle.std.proofs.Common.{◌≡◌, ℕ, ◌≤◌, length, take, sym, ap, ◌∙◌, arith, rules}
 use Rattle.std.proofs.lemmas.List.{length-take-le}
+use Rattle.search.specs.Trail.{Trail, Row, row}
 use Rattle.search.proofs.Settled.{length_row}
-use Rattle.parts.specs.declared.refusals.Refusal.TheVariants.{RowLength, NoSuchVerdict}
-use Rattle.search.specs.declared.Told.{Told}
-use Rattle.search.specs.Calls.{choice_row, reply, if_so, is_fits}
-use Rattle.search.specs.Trail.{row}
 use Rattle.trail.specs.Stacks.{trail_of}
-use Rattle.session.specs.View.{machine_of, verdict_of, filled, done}
 use Rattle.trail.proofs.Stacking.{row_front}
+use Rattle.session.proofs.Session.choice.Goals.{in-Fits, in_default}
 use Rattle.session.proofs.Session.choice.Goals as goal
 
-pub slice_bounds-copy_from_slice-end : goal.slice_bounds-copy_from_slice-end
-slice_bounds-copy_from_slice-end g c =
-    let t = trail_of c.args.self.now.trail in
-    sym (length-take-le c.n-n.result c.row.result.now (omega (arith, ap length c.row.ensures, length_row 120 t, c.n-n.ensures, (g.B.Book.sound c.args.self.now.book).few)))
+-- the first n of 120 codes are n
+front_long : (n : ℕ) (r : Row) (t : Trail) → n ≤ 120 → r ≡ row 120 t → length (take n r) ≡ n
+front_long n r t l e = length-take-le n r (omega (arith, l, ap length e, length_row 120 t))
 
-pub copy_from_slice-requires : goal.copy_from_slice-requires
-copy_from_slice-requires g c = c.if-row-n.false ∙ slice_bounds-copy_from_slice-end g c
+pub slice_bounds-codes-end : goal.slice_bounds-codes-end
+slice_bounds-codes-end g c =
+    sym (front_long c.n-n.result c.row.result.now (trail_of c.args.self.now.trail) (rw c.n-n.ensures (g.B.Book.sound c.args.self.now.book).few) c.row.ensures)
 
--- a standing "fits" is told of a row of n
-pub returns : goal.returns
-returns g c =
-    let s = c.args.self.now in
-    let n = (g.B.Book.meaning s.book).n in
-    let t = trail_of s.trail in
-    let e : choice_row n (machine_of g.B.Book.meaning g.S.Shelf.meaning s) (length c.args.row.now) ≡ Ok (row n t) =
-    ap (λ (v : Bool). reply (if_so (not v) RowLength (if_so (not (is_fits (verdict_of n s.told s.named))) NoSuchVerdict None)) (row n t)) (eq-eqb (length c.args.row.now) n (c.if-row-n.false ∙ c.n-n.ensures))
-    ∙ ap (λ (v : Told). reply (if_so (not (is_fits (verdict_of n v s.named))) NoSuchVerdict None) (row n t)) c.in-Fits.is in
-    let few = (g.B.Book.sound s.book).few in
-    record {
-      answer = ap done (sym e);
-      after = c.copy_from_slice.ensures.after ∙ ap (take c.n-n.result) c.row.ensures ∙ ap (λ k. take k (row 120 t)) c.n-n.ensures ∙ row_front n t few ∙ ap (λ r. filled r c.args.row.now) (sym e);
-    }
+pub show-requires : goal.show-requires
+show-requires g c = elim c.match-self.branch [
+  | in-Fits w ↦ rw w.codes-is (front_long c.n-n.result w.row.result.now (trail_of c.args.self.now.trail) (rw c.n-n.ensures (g.B.Book.sound c.args.self.now.book).few) w.row.ensures)
+  | in_default w ↦ rw w.codes-is tt
+]
+
+pub returns-clause-after : goal.returns-clause-after
+returns-clause-after g c = elim c.match-self.branch [
+  | in-Fits w ↦
+      let few = (g.B.Book.sound c.args.self.now.book).few in
+      let front = ap (take c.n-n.result) w.row.ensures ∙ ap (λ k. take k (row 120 (trail_of c.args.self.now.trail))) c.n-n.ensures ∙ row_front (g.B.Book.meaning c.args.self.now.book).n (trail_of c.args.self.now.trail) few in
+      search rules
+  | in_default w ↦ search rules
+]

@@ -1,5 +1,5 @@
 use Rattle.std.proofs.Common.{take, refl, ap, ◌∙◌, add-one}
-use Rattle.search.specs.Machine.{none_fits, named_holds, turned}
+use Rattle.search.specs.Machine.{none_fits, turned}
 use Rattle.holds.specs.Holding.{holds_of}
 use Rattle.session.proofs.Machines.{same, named_front}
 use Rattle.session.proofs.Session.end.Goals as goal
@@ -12,6 +12,6 @@ returns g c =
     let hs = holds_of s.holds in
     record {
       after = same _ _ refl c.requires.1 refl refl (add-one s.steps) (add-one s.turns)
-          (ap none_fits (ap (take n) (c.name_into.ensures ∙ ap (λ k. named_holds k c.args.work.now hs) s.wide) ∙ named_front n 120 c.args.work.now hs (g.B.Book.sound s.book).few));
+          (ap none_fits (ap (take n) (c.name_into.ensures) ∙ named_front n 120 c.args.work.now hs (g.B.Book.sound s.book).few));
       kept = (refl, refl, refl);
     }

@@ -11,9 +11,6 @@ returns-in-TurnOn g c =
     let m = machine_of g.B.Book.meaning g.S.Shelf.meaning c.args.self.now in
     record { after = c.turn_on.ensures.after ∙ ap (act b m) c.in-TurnOn.ensures.looked; kept = c.turn_on.ensures.kept }
 
-pub settle-requires : goal.settle-requires
-settle-requires g c = (c.requires.0, (c.requires.1, c.in-Force.ensures.free))
-
 pub returns-in-Force : goal.returns-in-Force
 unfolding step act
 returns-in-Force g c =

@@ -1,4 +1,5 @@
 use Rattle.std.proofs.Common.{◌≡◌, take, replicate, Some, None, Option, sym, ap, ◌∙◌}
+use Rattle.std.proofs.lemmas.List.{take-replicate}
 use Rattle.parts.specs.declared.Mark.{Mark}
 use Rattle.book.specs.Meaning.{Rule}
 use Rattle.search.specs.declared.Reason.{Reason}
@@ -8,7 +9,7 @@ use Rattle.trail.specs.Stacks.{trail_of}
 use Rattle.turns.specs.Turning.{outcome}
 use Rattle.session.specs.View.{bench_of, machine_of}
 use Rattle.trail.proofs.Stacking.{trail_apart}
-use Rattle.session.proofs.Machines.{take_zeros, stop_open}
+use Rattle.session.proofs.Machines.{stop_open}
 use Rattle.session.proofs.Session.turn_on.Given.{Over}
 use Rattle.session.proofs.Session.turn_on.Goals.{After-turn}
 use Rattle.session.proofs.Session.turn_on.Goals as goal
@@ -22,7 +23,7 @@ entered g c =
     let n = (g.B.Book.meaning c.args.self.now.book).n in
     let e : c.enter_reason.new.row ≡ enter (take c.n-n.result (replicate 120 0)) (marks_at (rules g c c.args.reason)) = c.enter_reason.ensures.after in
     e ∙ ap (λ k. enter (take k (replicate 120 0)) (marks_at (rules g c c.args.reason))) c.n-n.ensures
-    ∙ ap (λ r. enter r (marks_at (rules g c c.args.reason))) (take_zeros n 120 (g.B.Book.sound c.args.self.now.book).few)
+    ∙ ap (λ r. enter r (marks_at (rules g c c.args.reason))) (take-replicate n 120 0 (g.B.Book.sound c.args.self.now.book).few)
 
 -- the turn begins with the rule's marks
 turns : (g : Over) (c : After-turn g) (r : Option Mark) → c.turn.result ≡ r
@@ -36,10 +37,7 @@ pub learn-requires : goal.learn-requires
 learn-requires g c =
     let s = c.args.self.now in
     let q = (goal.at.learn-requires g c).After-turn in
-    (c.requires.0, (c.requires.1, stop_open (rules g q) _ _ (trail_of s.trail) _ c.in-Some.picked (trail_apart s.trail) (turns g q (Some c.in-Some.picked) c.in-Some.is)))
-
-pub end-requires : goal.end-requires
-end-requires g c = (c.requires.1, c.turn.ensures.bottom c.in-None.is)
+    (c.requires, stop_open (rules g q) _ _ (trail_of s.trail) _ c.in-Some.picked (trail_apart s.trail) (turns g q (Some c.in-Some.picked) c.in-Some.is))
 
 pub returns-in-Some : goal.returns-in-Some
 unfolding act turned rules

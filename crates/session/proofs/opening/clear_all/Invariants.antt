@@ -1,7 +1,6 @@
-use Rattle.std.proofs.Common.{◌≡◌, ◌++◌, drop, replicate, None}
+use Rattle.std.proofs.Common.{◌≡◌, ◌-◌}
+use Rattle.session.proofs.Clearing.{front}
 use Rattle.session.proofs.opening.clear_all.Given as goal
 
-abbrev pub invariant-loop-i : goal.invariant-loop-i
-invariant-loop-i g l =
-    let s = g.S.Shelf.meaning l.initial.shelf in
-    g.S.Shelf.meaning l.shelf ≡ record { n = s.n; rows = replicate l.i None ++ drop l.i s.rows }
+abbrev pub invariant-loop-place : goal.invariant-loop-place
+invariant-loop-place g l = g.S.Shelf.meaning l.shelf ≡ front (g.S.Shelf.meaning l.initial.shelf) (l.place - 1)

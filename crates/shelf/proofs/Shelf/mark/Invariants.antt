@@ -3,5 +3,5 @@ use Rattle.shelf.specs.Meaning.{mark_of_place}
 use Rattle.shelf.proofs.Walks.{sought}
 use Rattle.shelf.proofs.Shelf.mark.Given as goal
 
-abbrev pub invariant-loop-i : goal.invariant-loop-i
-invariant-loop-i g l = sought (g.Self.Shelf.meaning l.self) l.place l.i l.left ≡ mark_of_place (g.Self.Shelf.meaning l.self) l.place l.k
+abbrev pub invariant-loop-part : goal.invariant-loop-part
+invariant-loop-part g l = sought (g.Self.Shelf.meaning l.self) l.place l.part l.left ≡ mark_of_place (g.Self.Shelf.meaning l.self) l.place l.k

@@ -1,25 +1,27 @@
-use Rattle.std.proofs.Common.{true, false, is_some, sym, ap, ◌∙◌, arith}
-use Rattle.shelf.proofs.Walks.{told, told_side, told_refused, count_more, count_all, no_marks}
+use Rattle.std.proofs.Common.{◌≡◌, ◌+◌, ◌≤◌, true, false, is_some, is_ok, sym, ap, ◌∙◌, arith}
+use Rattle.shelf.specs.Meaning.{marks_of_place}
+use Rattle.shelf.proofs.Walks.{Told, counted, told, told_side, is_side, count_more, count_all}
 use Rattle.shelf.proofs.Shelf.marks.Goals as goal
-use Rattle.shelf.proofs.Shelf.marks.Goals.{then-is_some, else-is_some}
+use Rattle.shelf.proofs.Shelf.marks.Goals.{Joined-is_ok, then-is_ok, else-is_ok}
 
-pub returns-in_err-ok : goal.returns-in_err-ok
-returns-in_err-ok g c =
-    let s = g.Self.Shelf.meaning c.args.self.now in
-    c.from_residual.ensures ∙ no_marks s c.args.place (told_refused s c.args.place c.loop-i.i (omega arith) c.code.ensures c.in_err-ok.ensures.value)
+-- a part counted
+module _ (g : _) (c : Joined-is_ok g) where
+  there : Told (g.Self.Shelf.meaning c.args.self.now) c.args.place c.loop-part.part c.in_ok-code.code
+  there = told (g.Self.Shelf.meaning c.args.self.now) (g.Self.Shelf.sound c.args.self.now) c.args.place c.loop-part.part c.in_ok-code.code (omega arith) (omega arith) c.code.ensures c.in_ok-ok.ensures.value c.in_ok-code.was
 
-pub loop-i-preserved : goal.loop-i-preserved
-loop-i-preserved g c =
-    let s = g.Self.Shelf.meaning c.args.self.now in
-    let t = told s (g.Self.Shelf.sound c.args.self.now) c.args.place c.loop-i.i c.in_ok-code.code (omega arith) c.code.ensures c.in_ok-ok.ensures.value c.in_ok-code.was in
-    let some = ap is_some (told_side c.in_ok-code.code c.from_code.ensures c.from.ensures) ∙ sym c.is_some.ensures in
-    elim c.if-is_some.branch [
-      | then-is_some w ↦ (count_more t _ _ true (some ∙ w.if-is_some.true) w.marks-is ∙ c.loop-i.invariant.0, omega (arith, w.marks-is), λ _. ap is_some t.is)
-      | else-is_some w ↦ (count_more t _ _ false (some ∙ w.if-is_some.false) (omega (arith, w.marks-is)) ∙ c.loop-i.invariant.0, omega (arith, w.marks-is), λ _. ap is_some t.is)
-    ]
+  more : (counted (g.Self.Shelf.meaning c.args.self.now) c.args.place (c.loop-part.part + 1) c.if-is_ok.marks ≡ marks_of_place (g.Self.Shelf.meaning c.args.self.now) c.args.place) × (c.if-is_ok.marks ≤ c.loop-part.part)
+  more =
+      let some = sym (is_side _) ∙ ap is_ok (told_side c.in_ok-code.code c.try_from.ensures c.from.ensures) ∙ sym c.is_ok.ensures.value in
+      elim c.if-is_ok.branch [
+        | then-is_ok w ↦ (count_more there _ _ true (some ∙ w.if-is_ok.true) w.marks-is ∙ c.loop-part.invariant.0, omega (arith, w.marks-is))
+        | else-is_ok w ↦ (count_more there _ _ false (some ∙ w.if-is_ok.false) (omega (arith, w.marks-is)) ∙ c.loop-part.invariant.0, omega (arith, w.marks-is))
+      ]
 
-pub returns : goal.returns
-returns g c =
+pub loop-part-preserved : goal.loop-part-preserved
+loop-part-preserved g c = let h = (goal.at.loop-part-preserved g c).Joined-is_ok in let m = more g h in (m.0, omega arith, λ _. ap is_some (there g h).is)
+
+pub returns-after-is_ok : goal.returns-after-is_ok
+returns-after-is_ok g c =
     let s = c.args.self.now in
-    let ok = g.Self.Shelf.sound s in
-    sym (count_all (g.Self.Shelf.meaning s) ok c.args.place c.loop-i.i (omega arith) c.loop-i.marks (c.loop-i.invariant.2 (omega (arith, ok.some)))) ∙ c.loop-i.invariant.0
+    let h = (goal.at.returns-after-is_ok g c).Joined-is_ok in
+    sym (count_all (g.Self.Shelf.meaning s) (g.Self.Shelf.sound s) c.args.place (c.loop-part.part + 1) (omega arith) c.if-is_ok.marks (ap is_some (there g h).is)) ∙ (more g h).0

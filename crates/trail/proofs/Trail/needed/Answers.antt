@@ -1,14 +1,13 @@
-use Rattle.std.proofs.Common.{sym, ◌∙◌, arith}
-use Rattle.trail.proofs.Asking.{needed_here, needed_later, needed_none}
+use Rattle.std.proofs.Common.{◌∙◌, rules, tests}
+use Rattle.std.proofs.lemmas.Iterator.Adapters.{YieldsList-from_rev_slice}
+use Rattle.std.proofs.lemmas.Iterator.Search.{any_from_yields_List}
+use Rattle.search.specs.declared.Entry.{Entry}
+use Rattle.search.specs.Machine.{is_place}
+use Rattle.trail.proofs.Asking.{by_place, needed_any}
+use Rattle.trail.specs.Stacks.{trail_of}
 use Rattle.trail.proofs.Trail.needed.Goals as goal
 
-pub returns-then-by_place : goal.returns-then-by_place
-returns-then-by_place c =
-    sym (needed_here c.args.self.now c.loop-i.i _ (omega arith) c.args.place (sym c.if-by_place.ensures)) ∙ c.loop-i.invariant
-
-pub loop-i-preserved : goal.loop-i-preserved
-loop-i-preserved c =
-    sym (needed_later c.args.self.now c.loop-i.i _ (omega arith) c.args.place (sym c.if-by_place.ensures)) ∙ c.loop-i.invariant
-
 pub returns : goal.returns
-returns c = sym (needed_none c.args.self.now c.loop-i.i (omega arith) c.args.place) ∙ c.loop-i.invariant
+returns c =
+    any_from_yields_List (λ (e : Entry). is_place c.args.place e.kind) _ _ c.any.result c.any.ensures.ran (YieldsList-from_rev_slice c.args.self.now.entries.items cc) (λ x b q k. (search (rules, tests), by_place c.args.place x.now.kind b (search (rules, tests))))
+    ∙ needed_any (trail_of c.args.self.now) c.args.place

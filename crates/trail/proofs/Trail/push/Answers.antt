@@ -1,5 +1,5 @@
-use Rattle.std.proofs.Common.{◌≡◌, ◌-◌, ◌<◌, ◌≤◌, true, ◌∷◌, get_or, set, sym, ap, ◌∙◌, arith}
-use Rattle.std.proofs.lemmas.List.{length-set, length-map}
+use Rattle.std.proofs.Common.{◌≡◌, ◌-◌, ◌<◌, ◌≤◌, true, ◌∷◌, get_or, set, length, sym, ap, ◌∙◌, arith}
+use Rattle.std.proofs.lemmas.List.{length-map}
 use Rattle.book.specs.Meaning.{sound_rule}
 use Rattle.search.specs.declared.Entry.{Entry}
 use Rattle.search.specs.Trail.{row}
@@ -14,25 +14,19 @@ use Rattle.trail.proofs.Trail.push.Goals as goal
 pushed : (s : Trail) (m : Mark) → 1 ≤ m.part → m.part ≤ 120 → get_or s.row (m.part - 1) 0 ≡ 0 → sound_rule 120 (m ∷ marks_of (trail_of s)) ≡ true
 pushed s m lo hi free = push_apart (trail_of s) m s.apart lo hi (sym (ap (λ r. get_or r (m.part - 1) 0) s.shows) ∙ free)
 
-room : (s : Trail) (m : Mark) → 1 ≤ m.part → m.part ≤ 120 → get_or s.row (m.part - 1) 0 ≡ 0 → s.len < 120
+room : (s : Trail) (m : Mark) → 1 ≤ m.part → m.part ≤ 120 → get_or s.row (m.part - 1) 0 ≡ 0 → length s.entries.items < 120
 room s m lo hi free =
-    omega (arith, sound_length 120 (m ∷ marks_of (trail_of s)) (pushed s m lo hi free), length-map (trail_of s) (λ (e : Entry). e.mark), length_stacked s.entries s.len (omega (arith, s.short, s.long)))
+    omega (arith, sound_length 120 (m ∷ marks_of (trail_of s)) (pushed s m lo hi free), length-map (trail_of s) (λ (e : Entry). e.mark), length_stacked s.entries.items)
 
-pub bounds-self-self : goal.bounds-self-self
-bounds-self-self c = room c.args.self.now c.args.mark c.requires.0 c.requires.1.0 c.requires.1.1
+pub push-requires : goal.push-requires
+push-requires c = (omega arith, room c.args.self.now c.args.mark c.requires.0 c.requires.1.0 c.requires.1.1)
 
 pub invariant_of-self : goal.invariant_of-self
 invariant_of-self c =
     let s = c.args.self.now in
-    let k = room s c.args.mark c.requires.0 c.requires.1.0 c.requires.1.1 in
     let e : Entry = record { mark = c.args.mark; kind = c.args.kind } in
-    let t = stacked_push s.entries s.len e (omega (arith, k, s.long)) in record {
-      long = length-set s.entries s.len e ∙ s.long;
-      short = omega (arith, k);
+    let t = ap stacked c.push.ensures.items ∙ stacked_push s.entries.items e in record {
       apart = ap apart t ∙ pushed s c.args.mark c.requires.0 c.requires.1.0 c.requires.1.1;
-      shows = ap (λ r. set r (c.args.mark.part - 1) c.code.result) s.shows ∙ ap (set (row 120 (stacked s.entries s.len)) (c.args.mark.part - 1)) c.code.ensures
-          ∙ sym (ap (row 120) t ∙ row_push e (stacked s.entries s.len) c.requires.0 c.requires.1.0);
+      shows = ap (λ r. set r (c.args.mark.part - 1) c.from.result) s.shows ∙ ap (set (row 120 (trail_of s)) (c.args.mark.part - 1)) c.from.ensures
+          ∙ sym (ap (row 120) t ∙ row_push e (trail_of s) c.requires.0 c.requires.1.0);
     }
-
-pub returns : goal.returns
-returns c = let s = c.args.self.now in stacked_push s.entries s.len _ (omega (arith, room s c.args.mark c.requires.0 c.requires.1.0 c.requires.1.1, s.long))

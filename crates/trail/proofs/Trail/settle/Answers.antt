@@ -14,7 +14,4 @@ free s m e =
     (lo, hi, ap (λ r. get_or r (m.part - 1) 0) s.shows ∙ row_at 120 (trail_of s) (m.part - 1) (omega arith) ∙ ap (λ q. code (settled (trail_of s) q)) p ∙ ap code none)
 
 pub push-requires : goal.push-requires
-push-requires c = let (lo, hi, o) = free c.args.self.now c.args.mark (sym c.if-not-can_push.ensures) in (lo, (hi, o))
-
-pub returns : goal.returns
-returns c = record { answer = c.if-not-can_push.ensures; after = c.push.ensures }
+push-requires c = let (lo, hi, o) = free c.args.self.now c.args.mark (sym c.if-open.ensures) in (lo, (hi, o))

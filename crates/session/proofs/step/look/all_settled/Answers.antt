@@ -1,15 +1,18 @@
-use Rattle.std.proofs.Common.{sym, ◌∙◌}
-use Rattle.std.proofs.lemmas.List.{at_drop_more, at_drop_all}
+use Rattle.std.proofs.Common.{◌≡◌, ℕ, zero, suc, not, eqb, List, [], ◌∷◌, refl, ◌∙◌, arith, rules, tests}
+use Rattle.std.specs.List.{list_all}
+use Rattle.std.proofs.lemmas.Iterator.{YieldsList-from_slice}
+use Rattle.std.proofs.lemmas.Iterator.Search.{all_from_yields_List}
+use Rattle.std.proofs.lemmas.Bool.Decides.{nat_tests}
 use Rattle.search.specs.Machine.{all_settled}
-use Rattle.session.proofs.Looking.{settled_not, settled_on}
 use Rattle.session.proofs.step.look.all_settled.Goals as goal
 
-pub returns-then-code-eq0 : goal.returns-then-code-eq0
-returns-then-code-eq0 c = sym (at_drop_more all_settled _ _ 0 c.loop-code-test.true ∙ settled_not _ _ c.if-code-eq0.true) ∙ c.loop-code.invariant
-
-pub loop-code-preserved : goal.loop-code-preserved
-loop-code-preserved c = sym (at_drop_more all_settled _ _ 0 c.loop-code-test.true ∙ settled_on _ _ c.if-code-eq0.false) ∙ c.loop-code.invariant
+-- no code is open
+each : (cs : List ℕ) → list_all (λ c. not (eqb c 0)) cs ≡ all_settled cs
+unfolding all_settled
+each [] = refl
+each (zero ∷ cs) = grind arith
+each (suc k ∷ cs) = grind (arith, nat_tests, each cs)
 
 pub returns : goal.returns
-unfolding all_settled
-returns c = sym (at_drop_all all_settled _ _ c.loop-code-test.false) ∙ c.loop-code.invariant
+returns c =
+    all_from_yields_List (λ code. not (eqb code 0)) _ _ c.all.result c.all.ensures.ran (YieldsList-from_slice c.args.row.now cc) (λ x b q k. search (rules, tests)) ∙ each c.args.row.now

@@ -1,6 +1,0 @@
-use Rattle.std.proofs.Common.{sym, ◌∙◌}
-use Rattle.std.proofs.lemmas.List.{length-map}
-use Rattle.scan.proofs.lists.ShelfRulesRuleList.count.Goals as goal
-
-pub returns : goal.returns
-returns g c = c.places.ensures ∙ sym (length-map _ _)
