@@ -1,9 +1,9 @@
 -- The rules of bays hold exactly where one part of each bay is in.
-use Rattle.std.proofs.Common.{◌≡◌, ℕ, zero, suc, ◌+◌, ◌-◌, ◌<◌, ◌≤◌, Bool, true, List, [], ◌∷◌, ◌++◌, map, get_or, sym, refl, ap, ◌∙◌, subst, ⊎_elim, arith}
+use Rattle.std.proofs.Common.{◌≡◌, ℕ, zero, suc, ◌+◌, ◌-◌, ◌<◌, ◌≤◌, Bool, true, List, [], ◌∷◌, ◌++◌, map, get_or, refl, ap, ◌∙◌, subst, ⊎_elim, arith}
 use Rattle.std.specs.List.{range_with_len, AllByRecursion}
 use Rattle.std.proofs.lemmas.List.FromFn.{length-map-range_with_len, get_or-map-range_with_len}
 use Rattle.std.proofs.ByRecursion.{All-append, All-map}
-use Rattle.std.proofs.lemmas.Bool.{both_ways, cases_Bool, cases_eq, cases_order}
+use Rattle.std.proofs.lemmas.Bool.{cases_Bool, cases_eq, cases_order}
 use Rattle.parts.specs.declared.Mark.{Mark}
 use Rattle.bays.specs.Meaning.{in_mark, out_mark, some_in, not_both, pairs, bay_rules, bays_rules}
 use Rattle.bays.specs.Law.{is_in, Meets, InBay, OneIn, OneInEach, HoldOne}
@@ -28,14 +28,9 @@ module _ (P : ℕ → Type 0) where
   each_to a (suc w) all p i = ⊎_elim (λ e. subst P e all.0) (λ ne. each_to (a + 1) w all.1 p (omega arith, omega arith)) (cases_eq a p)
 
 module _ (f : ℕ → Bool) where
-  on : (x m : Mark) → x ≡ m → f m.part ≡ is_in m.side → f x.part ≡ is_in x.side
-  on x m e h = rw e h
-
   -- one of two parts is out
   apart_at : (i j k : ℕ) (m : Mark) → k < 2 → get_or (not_both i j) k m ≡ m → f m.part ≡ is_in m.side → f i ≡ true → f j ≡ true → ⊥
-  apart_at i j zero m l e h p q = both_ways (f i) (on (out_mark i) m e h) p
-  apart_at i j (suc zero) m l e h p q = both_ways (f j) (on (out_mark j) m e h) q
-  apart_at i j (suc (suc k)) m l e h p q = absurd (omega arith)
+  apart_at i j k m l e h p q = grind arith
 
   apart : (i j : ℕ) → Meets f (not_both i j) → f i ≡ true → f j ≡ true → ⊥
   apart i j (m, (k, l, e), h) = apart_at i j k m l (e m) h
@@ -68,7 +63,7 @@ module _ (f : ℕ → Bool) where
   some_is_in a w (m, (k, l, e), h) =
       let n = length-map-range_with_len in_mark a w in
       let i : k < w = omega arith in
-      (a + k, (omega arith, omega arith), on (in_mark (a + k)) m (sym (get_or-map-range_with_len in_mark a w k (a + k) m i refl) ∙ e m) h)
+      (a + k, (omega arith, omega arith), grind (arith, get_or-map-range_with_len in_mark a w k (a + k) m i refl, e m))
 
   some_met : (a w p : ℕ) → InBay a w p → f p ≡ true → Meets f (some_in a w)
   some_met a w p i h =

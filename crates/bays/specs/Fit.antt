@@ -1,10 +1,11 @@
 -- How many rules the bays have, and why their book is sound.
-use Rattle.std.specs.Prelude.{◌≡◌, ℕ, zero, suc, ◌+◌, ◌*◌, ◌<◌, ◌≤◌, true, false, ◌&&◌, List, [], ◌∷◌, map, length, nat_le, refl}
-use Rattle.std.proofs.Common.{ap, arith, length-append}
+use Rattle.std.specs.Prelude.{◌≡◌, ℕ, zero, suc, ◌+◌, ◌*◌, ◌<◌, ◌≤◌, true, false, List, [], ◌∷◌, map, length, refl}
+use Rattle.std.proofs.lemmas.Bool.Decides.{nat_tests}
+use Rattle.std.proofs.Common.{arith, length-append}
 use Rattle.std.specs.List.{range_with_len, AllByRecursion}
 use Rattle.std.proofs.lemmas.List.FromFn.{length-map-range_with_len}
 use Rattle.std.proofs.lemmas.List.Sums.{sum_by-cons}
-use Rattle.std.proofs.lemmas.Bool.{and_parts, and_from, or_from, not_from_false, leb-true, le-leb, ne_eqb}
+use Rattle.std.proofs.lemmas.Bool.{and_from}
 use Rattle.book.specs.Meaning.{Sound, names, sound_rule, sound_rules}
 use Rattle.book.specs.Joining.{sound_append}
 use Rattle.bays.specs.Meaning.{some_in, not_both, pairs, bay_rules, bays_rules, total, bay_book, pair_count, bay_count, rule_count, fit_widths, fit_bays}
@@ -15,7 +16,7 @@ total_more w ws = sum_by-cons (λ x. x) w ws
 
 pub length_pairs : (a w : ℕ) → length (pairs a w) ≡ pair_count w
 length_pairs a zero = refl
-length_pairs a (suc w) = simp (length-append, length-map-range_with_len) (ap (λ k. w + k) (length_pairs (a + 1) w))
+length_pairs a (suc w) = simp (length-append, length-map-range_with_len) (omega (arith, length_pairs (a + 1) w))
 
 pub length_bays : (a : ℕ) (ws : List ℕ) → length (bays_rules a ws) ≡ rule_count ws
 length_bays a [] = refl
@@ -33,16 +34,11 @@ pub record Fit (ws : List ℕ) : Type 0 where
 
 widths_fit : (ws : List ℕ) → fit_widths ws ≡ true → AllByRecursion (λ w. (1 ≤ w) × (w ≤ 20)) ws
 widths_fit [] h = tt
-widths_fit (w ∷ ws) h =
-    let p = and_parts (nat_le 1 w && nat_le w 20) (fit_widths ws) h in
-    let q = and_parts (nat_le 1 w) (nat_le w 20) p.0 in
-    ((leb-true 1 w q.0, leb-true w 20 q.1), widths_fit ws p.1)
+widths_fit (w ∷ ws) h = grind (arith, nat_tests, widths_fit ws)
 
 pub fit_from : (ws : List ℕ) → fit_bays ws ≡ true → Fit ws
 fit_from ws h =
-    let p = and_parts (nat_le 1 (length ws)) (fit_widths ws && nat_le (total ws) 120) h in
-    let q = and_parts (fit_widths ws) (nat_le (total ws) 120) p.1 in
-    record { some = leb-true 1 (length ws) p.0; widths = widths_fit ws q.0; few = leb-true (total ws) 120 q.1 }
+    record { some = grind (arith, nat_tests); widths = widths_fit ws (grind arith); few = grind (arith, nat_tests) }
 
 pub rules_few : (ws : List ℕ) → AllByRecursion (λ w. (1 ≤ w) × (w ≤ 20)) ws → rule_count ws ≤ 21 * total ws
 rules_few [] a = omega arith
@@ -55,24 +51,18 @@ parts_some (w ∷ ws) h a = omega (arith, a.0.0, total_more w ws)
 -- a part below a bay is not named by it
 not_named : (p a w : ℕ) → p < a → names (some_in a w) p ≡ false
 not_named p a zero h = refl
-not_named p a (suc w) h = or_from _ _ (ne_eqb a p (λ e. omega arith)) (not_named p (a + 1) w (omega arith))
+not_named p a (suc w) h = grind (arith, nat_tests, not_named p (a + 1) w)
 
 in_sound : (n a w : ℕ) → 1 ≤ a → a + w ≤ suc n → sound_rule n (some_in a w) ≡ true
 in_sound n a zero low high = refl
-in_sound n a (suc w) low high =
-    and_from _ _
-    (and_from _ _ (le-leb 1 a low) (le-leb a n (omega arith)))
-    (and_from _ _ (not_from_false _ (not_named a (a + 1) w (omega arith))) (in_sound n (a + 1) w (omega arith) (omega arith)))
+in_sound n a (suc w) low high = grind (arith, nat_tests, not_named a (a + 1) w, in_sound n (a + 1) w)
 
 pair_sound : (n i j : ℕ) → 1 ≤ i → i < j → j ≤ n → sound_rule n (not_both i j) ≡ true
-pair_sound n i j low rise high =
-    and_from _ _
-    (and_from _ _ (le-leb 1 i low) (le-leb i n (omega arith)))
-    (and_from _ _ (not_from_false _ (or_from _ _ (ne_eqb j i (λ e. omega arith)) refl)) (and_from _ _ (and_from _ _ (le-leb 1 j (omega arith)) (le-leb j n high)) refl))
+pair_sound n i j low rise high = grind (arith, nat_tests)
 
 row_sound : (n i a w : ℕ) → 1 ≤ i → i < a → a + w ≤ suc n → sound_rules n (map (not_both i) (range_with_len a w)) ≡ true
 row_sound n i a zero low rise high = refl
-row_sound n i a (suc w) low rise high = and_from _ _ (pair_sound n i a low rise (omega arith)) (row_sound n i (a + 1) w low (omega arith) (omega arith))
+row_sound n i a (suc w) low rise high = grind (arith, pair_sound n i a, row_sound n i (a + 1) w)
 
 pairs_sound : (n a w : ℕ) → 1 ≤ a → a + w ≤ suc n → sound_rules n (pairs a w) ≡ true
 pairs_sound n a zero low high = refl

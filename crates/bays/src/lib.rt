@@ -55,6 +55,7 @@ impl BayBook {
     fn spot(&self, rule: usize) -> Option<Spot>
         ensures { Spotted self.now.widths.items rule result }
     {
+        // Stays two numbers that go along: a fold would carry both and still leave at three places.
         let mut number = rule.checked_sub(1)?;
         let mut from = 1;
         for width in &self.widths {
@@ -123,6 +124,7 @@ fn counts(widths: &[u16]) -> Option<(usize, usize)>
     if widths.is_empty() {
         return None;
     }
+    // Stays a for: a try_fold would carry both totals through a closure that is this body.
     let mut n = 0;
     let mut rules = 0;
     for width in widths {

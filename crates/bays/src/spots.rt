@@ -58,6 +58,7 @@ impl Bay {
         ensures { option_map (λ p. not_both p.low p.high) result ≡ slice_get (pairs self.from self.width) number }
     {
         let end = self.from + self.width;
+        // Stays a number that is counted down: each part has fewer pairs than the one before, so no one step serves for all.
         let mut left = number;
         for low in self.from..end {
             let later = end - low - 1;

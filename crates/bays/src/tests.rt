@@ -7,15 +7,8 @@ use parts::{Mark, Side};
 use std::process::Abort;
 use std::test::Fail;
 
-// A mark of the part, in.
-fn put_in(part: usize) -> Option<Mark> {
-    let side = Side::In;
-    Some(Mark { part, side })
-}
-
-// A mark of the part, out.
-fn put_out(part: usize) -> Option<Mark> {
-    let side = Side::Out;
+// The part's mark on a side.
+fn put(part: usize, side: Side) -> Option<Mark> {
     Some(Mark { part, side })
 }
 
@@ -24,10 +17,10 @@ fn two_bays<B: Book>(rt: &impl Abort, book: &B, from: usize) {
     assert!(rt; from < 1000);
     assert_eq!(rt; book.n(), 3);
     assert_eq!(rt; book.marks(from), Some(2));
-    assert_eq!(rt; book.mark(from, 2), put_in(2));
-    assert_eq!(rt; book.mark(from + 1, 1), put_out(1));
-    assert_eq!(rt; book.mark(from + 1, 2), put_out(2));
-    assert_eq!(rt; book.mark(from + 2, 1), put_in(3));
+    assert_eq!(rt; book.mark(from, 2), put(2, Side::In));
+    assert_eq!(rt; book.mark(from + 1, 1), put(1, Side::Out));
+    assert_eq!(rt; book.mark(from + 1, 2), put(2, Side::Out));
+    assert_eq!(rt; book.mark(from + 2, 1), put(3, Side::In));
     assert_eq!(rt; book.mark(from + 2, 2), None);
 }
 
@@ -67,6 +60,6 @@ fn bays_refuse(rt: HostRuntime) -> Result<(), Fail> {
         return Err(Fail::new("3 parts and 4"));
     };
     assert_eq!(rt; unjoined.refusal, Refusal::JoinPartsDiffer);
-    assert_eq!(rt; unjoined.back.1.mark(7, 1), put_out(3));
+    assert_eq!(rt; unjoined.back.1.mark(7, 1), put(3, Side::Out));
     Ok(())
 }

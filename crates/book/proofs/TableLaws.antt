@@ -21,11 +21,11 @@ rule_back n (m ∷ r) h =
     let a = mark_back m.side m.part (leb-true 1 m.part (and_parts _ _ p.0).0) in
     ap (λ x. x ∷ map mark_from (map number_from r)) a ∙ ap (λ t. m ∷ t) (rule_back n r (and_parts _ _ p.1).1)
 
-length_ends : (from : ℕ) (rs : List Rule) → length (end_table from rs) ≡ length rs
+pub length_ends : (from : ℕ) (rs : List Rule) → length (end_table from rs) ≡ length rs
 length_ends from [] = refl
 length_ends from (r ∷ rs) = ap suc (length_ends (from + length r) rs)
 
-length_marks : (rs : List Rule) → length (mark_table rs) ≡ count_marks rs
+pub length_marks : (rs : List Rule) → length (mark_table rs) ≡ count_marks rs
 length_marks [] = refl
 length_marks (r ∷ rs) = length-append (map number_from r) (mark_table rs) ∙ rw (length-map, length_marks rs)
 

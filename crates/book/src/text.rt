@@ -125,6 +125,7 @@ fn rules_sound(n: usize, marks: &[i16], ends: &[u16]) -> bool
     requires { rising (min 16000 (length marks.now)) 0 ends.now ≡ true }
     ensures { result ≡ sound_rules n (cut 0 ends.now (map mark_from marks.now)) }
 {
+    // Stays a for: an `all` would carry in its closure where each rule begins.
     let mut from = 0;
     for end in ends {
         let to = usize::from(*end);

@@ -5,9 +5,7 @@ use Rattle.std.specs.List.{flat_map, AllByRecursion}
 use Rattle.std.proofs.lemmas.Fmt.{decimal_nonempty}
 use Rattle.std.proofs.ByRecursion.{All-append, All-weaker}
 use Rattle.std.proofs.lemmas.List.{append-nil, append_assoc}
-use Rattle.std.proofs.lemmas.Bool.{and_parts}
 use Rattle.std.proofs.lemmas.Bool.Decides.{nat_tests}
-use Rattle.parts.specs.declared.Mark.{Mark}
 use Rattle.parts.specs.declared.Side.{Side}
 use Rattle.parts.specs.declared.Side.TheVariants.{In, Out}
 use Rattle.parts.specs.declared.refusals.Refusal.TheVariants.{NotWritable}
@@ -49,12 +47,9 @@ decimal_visible v h = All-weaker (Within 48 57) (λ b. 32 < b) (λ b d. omega ar
 decimal_field : (v : ℕ) → v < 100000 → Field (decimal v)
 decimal_field v h = visible (decimal v) (decimal_nonempty v (omega arith)) (decimal_visible v h)
 
-mark_is_field : (m : Mark) → m.part < 100000 → Field (mark_field m)
-mark_is_field m h = by m.side
-  where
-    by : (s : Side) → Field (mark_text s m.part)
-    by In = decimal_field m.part h
-    by Out = visible (codes "-" ++ decimal m.part) (omega arith) (omega arith, decimal_visible m.part h)
+text_is_field : (s : Side) (p : ℕ) → p < 100000 → Field (mark_text s p)
+text_is_field In p h = decimal_field p h
+text_is_field Out p h = visible (codes "-" ++ decimal p) (omega arith) (omega arith, decimal_visible p h)
 
 -- the line of a rule without its line feed, and the head without it
 abbrev rule_body : Rule → List ℕ
@@ -68,7 +63,7 @@ rule_fields n [] few h = alone (codes "0") (visible (codes "0") (omega arith) (o
 rule_fields n (m ∷ r) few h =
     let (lo, hi, new, sound) = sound_parts n m r h in
     let line : rule_body (m ∷ r) ≡ mark_field m ++ 32 ∷ rule_body r = simp append_assoc in
-    rw line (spaced (mark_field m) (rule_words r) (rule_body r) (mark_is_field m (omega arith)) (rule_fields n r few sound))
+    rw line (spaced (mark_field m) (rule_words r) (rule_body r) (text_is_field m.side m.part (omega arith)) (rule_fields n r few sound))
 
 head_fields : (n m : ℕ) → n < 100000 → m < 100000 → Fields (head_words n m) (head_body n m)
 head_fields n m h k =
@@ -80,9 +75,8 @@ head_fields n m h k =
 rules_lines : (n : ℕ) (rs : List Rule) → n < 100000 → sound_rules n rs ≡ true → Lines (map rule_body rs) (flat_map rule_line rs) × Rest rs (map rule_body rs)
 rules_lines n [] few h = (refl, ends)
 rules_lines n (r ∷ rs) few h =
-    let (sound, more) = and_parts (sound_rule n r) (sound_rules n rs) h in
-    let body = rule_fields n r few sound in
-    let (ls, rest) = rules_lines n rs few more in
+    let body = rule_fields n r few (grind arith) in
+    let (ls, rest) = rules_lines n rs few (grind arith) in
     ((fields_inline (rule_words r) (rule_body r) body, inl (flat_map rule_line rs, simp append_assoc, ls)), reads body rest)
 
 -- What is written of a book is a text that the format allows for it.

@@ -1,41 +1,27 @@
 -- The fields of a line are those that the format speaks of, and so are the fields that count.
-use Rattle.std.proofs.Common.{◌≡◌, ℕ, ◌+◌, true, false, eqb, List, [], ◌∷◌, ◌++◌, length, get_or, Decides, sym, refl, ap, ◌∙◌, inl, inr, arith}
+use Rattle.std.proofs.Common.{◌≡◌, ℕ, ◌+◌, true, false, eqb, List, [], ◌∷◌, ◌++◌, length, get_or, ◌≢◌, sym, refl, ap, ◌∙◌, inl, inr, arith}
 use Rattle.std.specs.List.{AllByRecursion}
 use Rattle.std.proofs.lemmas.List.{append-nil}
-use Rattle.std.proofs.lemmas.Bool.{eqb-true, eq-eqb, cond_both, not-false, not-true, both_ways, false≢true}
-use Rattle.std.proofs.lemmas.Bool.Decides.{Decides-or, Decides-eqb, not_from_Decides}
+use Rattle.std.proofs.lemmas.Bool.{eqb-true, cond_both}
+use Rattle.std.proofs.lemmas.Bool.Decides.{nat_tests}
 use Rattle.grammar.specs.Pieces.{Piece, grown, blank, goes_on, fields, counted}
 use Rattle.grammar.specs.Format.{Blank, Inline, Field, Parts, Fields, Skipped}
 use Rattle.grammar.proofs.Lines.{bytes_of}
 
-pub decides_blank : (b : ℕ) → Decides (blank b) (Blank b)
-decides_blank b = Decides-or (eqb b 32) (eqb b 9) (Decides-eqb b 32) (Decides-eqb b 9)
-
-is_blank : (b : ℕ) → Blank b → blank b ≡ true
-is_blank b = (decides_blank b).1
-
-no_blank : (b : ℕ) → (Blank b → ⊥) → blank b ≡ false
-no_blank b h = grind (arith, (decides_blank b).0)
-
 stops : (rest : List ℕ) → Parts rest → goes_on rest ≡ false
 stops [] h = refl
-stops (b ∷ bs) h = rw (is_blank b h)
+stops (b ∷ bs) h = grind (arith, nat_tests)
 
 -- blanks before a field are passed over
 pub fields_blank : (p : ℕ) (bs rest : List ℕ) → AllByRecursion Blank bs → fields p (bs ++ rest) ≡ fields (p + length bs) rest
-fields_blank p [] rest h = ap (λ (q : ℕ). fields q rest) (omega arith)
-fields_blank p (b ∷ bs) rest h =
-    let e : p + 1 + length bs ≡ p + length (b ∷ bs) = omega arith in
-    rw (is_blank b h.0, fields_blank (p + 1) bs rest h.1, e)
+fields_blank p [] rest h = grind arith
+fields_blank p (b ∷ bs) rest h = grind (arith, nat_tests, fields_blank (p + 1) bs rest)
 
 -- a field goes up to a blank or the line's end
 pub fields_field : (p : ℕ) (w rest : List ℕ) → Field w → Parts rest → fields p (w ++ rest) ≡ record { at = p; bytes = w } ∷ fields (p + length w) rest
 fields_field p [] rest h parts = absurd (h.0 refl)
-fields_field p (b ∷ []) rest h parts = rw (no_blank b h.1.0.0, stops rest parts)
-fields_field p (b ∷ c ∷ w) rest h parts =
-    let e : p + 1 + length (c ∷ w) ≡ p + length (b ∷ c ∷ w) = omega arith in
-    let more = fields_field (p + 1) (c ∷ w) rest (λ e. omega (arith, ap length e), h.1.1) parts in
-    rw (no_blank b h.1.0.0, more, no_blank c h.1.1.0.0, e)
+fields_field p (b ∷ []) rest h parts = grind (arith, nat_tests, h.1.0.0, stops rest parts)
+fields_field p (b ∷ c ∷ w) rest h parts = grind (arith, nat_tests, h.1.0.0, h.1.1.0.0, fields_field (p + 1) (c ∷ w) rest (λ e. cc, h.1.1) parts)
 
 pub fields_none : (p : ℕ) (line : List ℕ) → AllByRecursion Blank line → fields p line ≡ []
 fields_none p line h = ap (fields p) (sym (append-nil line)) ∙ fields_blank p line [] h
@@ -54,36 +40,34 @@ fields_after b (w ∷ ws) line k h = (b ∷ h.0, h.1, ap (λ l. b ∷ l) h.2, (k
 
 parted : (rest : List ℕ) → goes_on rest ≡ false → Parts rest
 parted [] e = tt
-parted (b ∷ bs) e = (decides_blank b).0 (not-false (blank b) e)
+parted (b ∷ bs) e = grind (arith, nat_tests)
 
 -- a field grows by the byte before it
 field_grows : (b p : ℕ) (bs : List ℕ) (ps : List Piece) → (Blank b → ⊥) × Inline b → goes_on bs ≡ true → Fields (bytes_of ps) bs → Fields (bytes_of (grown b p ps)) (b ∷ bs)
-field_grows b p [] ps k on h = absurd (false≢true on)
-field_grows b p (c ∷ bs) [] k on h = absurd (both_ways (blank c) (not-true (blank c) on) (is_blank c h.0))
+field_grows b p [] ps k on h = cc
+field_grows b p (c ∷ bs) [] k on h = grind (arith, nat_tests)
 field_grows b p (c ∷ bs) (q ∷ ps) k on h = by h.0 h.2 h.3
   where
     by : (before : List ℕ) → c ∷ bs ≡ before ++ (q.bytes ++ h.1) → AllByRecursion Blank before → Fields (bytes_of (grown b p (q ∷ ps))) (b ∷ c ∷ bs)
-    by [] e a = ([], h.1, ap (λ l. b ∷ l) e, tt, (λ e. omega (arith, ap length e), (k, h.4.1)), h.5, h.6)
-    by (d ∷ before) e a =
-        let same : c ≡ d = cc in
-        absurd (both_ways (blank c) (not-true (blank c) on) (is_blank c (rw same a.0)))
+    by [] e a = ([], h.1, cc, tt, (λ e. cc, (k, h.4.1)), h.5, h.6)
+    by (d ∷ before) e a = grind (arith, nat_tests)
 
 -- each line is one of its fields
 pub fields_of : (p : ℕ) (line : List ℕ) → AllByRecursion Inline line → Fields (bytes_of (fields p line)) line
 fields_of p [] h = tt
 fields_of p (b ∷ bs) h =
     let rest = fields_of (p + 1) bs h.1 in
-    cond_both (blank b) _ _ (λ ps. Fields (bytes_of ps) (b ∷ bs)) (λ e. fields_after b _ bs ((decides_blank b).0 e) rest)
+    cond_both (blank b) _ _ (λ ps. Fields (bytes_of ps) (b ∷ bs)) (λ e. fields_after b _ bs (grind (arith, nat_tests)) rest)
     (λ e.
-    let k : (Blank b → ⊥) × Inline b = (not_from_Decides (blank b) (decides_blank b) e, h.0) in
+    let k : (Blank b → ⊥) × Inline b = (λ k. grind (arith, nat_tests), h.0) in
     cond_both (goes_on bs) _ _ (λ ps. Fields (bytes_of ps) (b ∷ bs)) (λ on. field_grows b p bs _ k on rest)
-    (λ on. ([], bs, refl, tt, (λ e. omega (arith, ap length e), (k, tt)), parted bs on, rest)))
+    (λ on. ([], bs, refl, tt, (λ e. cc, (k, tt)), parted bs on, rest)))
 
 -- a line that is passed over has no fields that count
 pub counted_skipped : (line : List ℕ) → Skipped line → counted line ≡ []
 counted_skipped [] h = refl
-counted_skipped (b ∷ bs) (inl h) = rw (eq-eqb b 99 h)
-counted_skipped (b ∷ bs) (inr h) = cond_both (eqb b 99) _ _ (λ ps. ps ≡ []) (λ _. refl) (λ _. fields_none 0 (b ∷ bs) h)
+counted_skipped (b ∷ bs) (inl h) = grind (arith, nat_tests)
+counted_skipped (b ∷ bs) (inr h) = grind (arith, fields_none 0 (b ∷ bs) h)
 
 -- what a line with these fields that count is
 abbrev pub Counts : List (List ℕ) → List ℕ → Type 0
@@ -107,7 +91,7 @@ counted_are w ws (b ∷ bs) n h =
     cond_both (eqb b 99) _ _ (λ ps. bytes_of ps ≡ w ∷ ws) (λ e. absurd (n (by w h.0 h.4.0 h.2 h.3 (eqb-true b 99 e))))
     (λ _. fields_are 0 (w ∷ ws) (b ∷ bs) h)
   where
-    by : (w before : List ℕ) → (w ≡ [] → ⊥) → b ∷ bs ≡ before ++ (w ++ h.1) → AllByRecursion Blank before → b ≡ 99 → get_or w 0 0 ≡ 99
-    by [] before some e a is = absurd (some refl)
+    by : (w before : List ℕ) → w ≢ [] → b ∷ bs ≡ before ++ (w ++ h.1) → AllByRecursion Blank before → b ≡ 99 → get_or w 0 0 ≡ 99
+    by [] [] some e a is = absurd (some refl)
     by (c ∷ w) [] some e a is = cc
-    by (c ∷ w) (d ∷ before) some e a is = let same : d ≡ b = cc in omega (arith, a.0)
+    by w (d ∷ before) some e a is = grind arith

@@ -1,7 +1,8 @@
 -- The lines after the head read as rules exactly if the format allows them for these rules and the tables take them.
-use Rattle.std.proofs.Common.{◌≡◌, ℕ, ◌+◌, ◌<◌, ◌≤◌, true, cond, ltb, ◌⊎◌, List, [], ◌∷◌, length, Ok, Err, codes, Result, refl, ap, ◌∙◌, subst, inl, inr, arith}
+use Rattle.std.proofs.Common.{◌≡◌, ℕ, ◌+◌, ◌<◌, ◌≤◌, true, cond, ltb, ◌⊎◌, List, [], ◌∷◌, length, Ok, Err, codes, Result, refl, inl, inr, arith}
 use Rattle.std.specs.List.{AllByRecursion}
-use Rattle.std.proofs.lemmas.Bool.{and_parts, and_from, lt-ltb, le-ltb, ltb-true, ltb-false, cond-true, cond-false, true≢false}
+use Rattle.std.proofs.lemmas.Bool.{lt-ltb}
+use Rattle.std.proofs.lemmas.Bool.Decides.{nat_tests}
 use Rattle.parts.specs.declared.refusals.Fault.{Fault}
 use Rattle.parts.specs.declared.refusals.Refusal.TheVariants.{RuleCount}
 use Rattle.book.specs.Meaning.{Rule, sound_rule, sound_rules, count_marks}
@@ -10,11 +11,10 @@ use Rattle.grammar.specs.declared.Room.{Room}
 use Rattle.grammar.specs.Pieces.{Piece, counted}
 use Rattle.grammar.specs.Reading.{fault, limit, rule_of, after, rules_of}
 use Rattle.grammar.specs.Writing.{mark_field}
-use Rattle.grammar.specs.Format.{Inline, Skipped, RuleLine, Rest}
+use Rattle.grammar.specs.Format.{Inline, RuleLine, Rest}
 use Rattle.grammar.specs.Format.Rest.{ends, skips, reads}
-use Rattle.grammar.proofs.Turns.{past, passed, refused}
 use Rattle.grammar.proofs.Lines.{bytes_of}
-use Rattle.grammar.proofs.Fields.{counted_skipped, counted_are, Counts, counted_of}
+use Rattle.grammar.proofs.Fields.{counted_skipped, counted_are, counted_of}
 use Rattle.grammar.proofs.Numbers.{first_mark}
 use Rattle.grammar.proofs.Marks.{sound_parts}
 use Rattle.grammar.proofs.RuleLine.{rule_words, Written, Kept, rule_from, rule_to}
@@ -31,18 +31,8 @@ line_written n (m ∷ r) line few h f =
     counted_are (mark_field m) (rule_words r) line (first_mark m (omega arith)) f
 
 pub written_line : (r : Rule) (line : List ℕ) → AllByRecursion Inline line → Written r (counted line) → RuleLine r line
-written_line [] line h w = subst (λ ws. Counts ws line) w (counted_of line h)
-written_line (m ∷ r) line h w = subst (λ ws. Counts ws line) w (counted_of line h)
-
-rest_none : {l : List ℕ} {ls : List (List ℕ)} → Rest [] (l ∷ ls) → Skipped l × Rest [] ls
-rest_none (skips s h) = (s, h)
-
-rest_some : {r : Rule} {rs : List Rule} {l : List ℕ} {ls : List (List ℕ)} → Rest (r ∷ rs) (l ∷ ls) → (Skipped l × Rest (r ∷ rs) ls) ⊎ (RuleLine r l × Rest rs ls)
-rest_some (skips s h) = inl (s, h)
-rest_some (reads f h) = inr (f, h)
-
-rest_short : {r : Rule} {rs : List Rule} → Rest (r ∷ rs) [] → ⊥
-rest_short h = elim h [ ]
+written_line [] line h w = rw w at (counted_of line h)
+written_line (m ∷ r) line h w = rw w at (counted_of line h)
 
 -- rules that may follow `done` rules with `used` marks, so that there are m rules
 pub record Given (room : Room) (m done used : ℕ) (rs : List Rule) : Type 0 where
@@ -50,15 +40,6 @@ pub record Given (room : Room) (m done used : ℕ) (rs : List Rule) : Type 0 whe
   pub fits : used + count_marks rs ≤ limit room.marks
   pub all : done + length rs ≡ m
   pub lines : m ≤ room.ends
-
-module _ (room : Room) (m done used : ℕ) (r : Rule) (rs : List Rule) where
-  given_parts : (l : Piece) → Given room m done used (r ∷ rs) → Kept room (place_of done used l) r × Given room m (done + 1) (used + length r) rs
-  given_parts l g =
-      let k = and_parts (sound_rule room.n r) (sound_rules room.n rs) g.sound in
-      (record { sound = k.0; fits = omega arith; line = omega arith }, record { sound = k.1; fits = omega arith; all = omega arith; lines = g.lines })
-
-  given_from : (l : Piece) → Kept room (place_of done used l) r → Given room m (done + 1) (used + length r) rs → Given room m done used (r ∷ rs)
-  given_from l k g = record { sound = and_from (sound_rule room.n r) (sound_rules room.n rs) k.sound g.sound; fits = omega arith; all = omega arith; lines = g.lines }
 
 -- how the lines after a rule line go on, by what that line reads as
 abbrev pub read_rule : Room → ℕ → ℕ → ℕ → ℕ → List Piece → Result Rule Fault → Result (List Rule) Fault
@@ -80,69 +61,45 @@ LineStep room end m done used l ls rs fs =
 module _ (room : Room) (end m : ℕ) where
   -- a line that is passed over
   pub rules_skip : (done used : ℕ) (l : Piece) (ls : List Piece) → counted l.bytes ≡ [] → rules_of room end m done used (l ∷ ls) ≡ rules_of room end m done used ls
-  rules_skip done used l ls e = ap (read_line room end m done used l ls) e
+  rules_skip done used l ls e = grind arith
 
   -- a line that gives a rule
   pub rules_rule : (done used : ℕ) (l : Piece) (ls : List Piece) (r : Rule) → done < m → rule_of room (place_of done used l) [] (counted l.bytes) ≡ Ok r
       → rules_of room end m done used (l ∷ ls) ≡ after r (rules_of room end m (done + 1) (used + length r) ls)
-  rules_rule done used l ls r h = by (counted l.bytes)
-    where
-      by : (fs : List Piece) → rule_of room (place_of done used l) [] fs ≡ Ok r → read_line room end m done used l ls fs ≡ after r (rules_of room end m (done + 1) (used + length r) ls)
-      by [] e = absurd (refused _ r e)
-      by (f ∷ fs) e = cond-true (ltb done m) _ _ (lt-ltb done m h) ∙ ap (read_rule room end m done used ls) e
+  rules_rule done used l ls r h e = grind (arith, lt-ltb done m h)
 
   -- rules that the format allows are read
   pub rules_from : (ps : List Piece) (rs : List Rule) (done used : ℕ) → room.n < 100000 → Given room m done used rs → Rest rs (bytes_of ps) → rules_of room end m done used ps ≡ Ok rs
-  rules_from [] [] done used few g h = cond-false (ltb done m) _ _ (le-ltb done m (omega arith))
-  rules_from [] (r ∷ rs) done used few g h = absurd (rest_short h)
-  rules_from (l ∷ ls) [] done used few g h =
-      let (s, t) = rest_none h in
-      rules_skip done used l ls (counted_skipped l.bytes s) ∙ rules_from ls [] done used few g t
-  rules_from (l ∷ ls) (r ∷ rs) done used few g h =
-      elim (rest_some h) [
-        | inl k ↦ rules_skip done used l ls (counted_skipped l.bytes k.0) ∙ rules_from ls (r ∷ rs) done used few g k.1
-        | inr k ↦
-            let (kept, more) = given_parts room m done used r rs l g in
-            rules_rule done used l ls r (omega arith) (rule_from room (place_of done used l) r [] (counted l.bytes) few kept (line_written room.n r l.bytes few kept.sound k.0))
-            ∙ ap (after r) (rules_from ls rs (done + 1) (used + length r) few more k.1)
-      ]
-
-  after_ok : (r : Rule) (rs : List Rule) (x : Result (List Rule) Fault) → after r x ≡ Ok rs → (more : List Rule) × (rs ≡ r ∷ more) × (x ≡ Ok more)
-  after_ok r rs (Err e) h = absurd (refused e rs h)
-  after_ok r rs (Ok more) h = (more, cc, refl)
-
-  rule_got : (done used : ℕ) (ls : List Piece) (rs : List Rule) (x : Result Rule Fault) → read_rule room end m done used ls x ≡ Ok rs
-      → (r : Rule) × (more : List Rule) × (rs ≡ r ∷ more) × (x ≡ Ok r) × (rules_of room end m (done + 1) (used + length r) ls ≡ Ok more)
-  rule_got done used ls rs (Err e) h = absurd (refused e rs h)
-  rule_got done used ls rs (Ok r) h = let (more, is, rest) = after_ok r rs _ h in (r, more, is, refl, rest)
+  rules_from [] rs done used few g ends = grind (arith, nat_tests)
+  rules_from (l ∷ ls) rs done used few g (skips s h) = grind (arith, rules_skip done used l ls (counted_skipped l.bytes s), rules_from ls rs done used few g h)
+  rules_from (l ∷ ls) (r ∷ rs) done used few g (reads f h) =
+      let kept : Kept room (place_of done used l) r = grind arith in
+      let more : Given room m (done + 1) (used + length r) rs = grind arith in
+      let line = rule_from room (place_of done used l) r [] (counted l.bytes) few kept (line_written room.n r l.bytes few kept.sound f) in
+      grind (arith, rules_rule done used l ls r, rules_from ls rs (done + 1) (used + length r) few more h)
 
   -- a line of lines that were read was passed over, or gave a rule
   pub step_rules : (done used : ℕ) (l : Piece) (ls : List Piece) (rs : List Rule) → rules_of room end m done used (l ∷ ls) ≡ Ok rs → LineStep room end m done used l ls rs (counted l.bytes)
-  step_rules done used l ls rs = by (counted l.bytes)
+  step_rules done used l ls = by (counted l.bytes)
     where
-      by : (fs : List Piece) → read_line room end m done used l ls fs ≡ Ok rs → LineStep room end m done used l ls rs fs
-      by [] e = inl (refl, e)
-      by (f ∷ fs) e =
-          let (lt, h) = passed (ltb done m) _ _ _ (refused _ rs) e in
-          let (r, more, is, rule, rest) = rule_got done used ls rs _ h in
-          inr (r, more, is, ltb-true done m lt, rule, rest)
+      by : (fs : List Piece) (rs : List Rule) → read_line room end m done used l ls fs ≡ Ok rs → LineStep room end m done used l ls rs fs
+      by [] rs e = inl (refl, e)
+      by (f ∷ fs) [] e = grind arith
+      by (f ∷ fs) (r ∷ more) e = inr (r, more, refl, grind (arith, nat_tests), grind arith, grind arith)
 
   -- and no others
   pub rules_to : (ps : List Piece) (rs : List Rule) (done used : ℕ) → AllByRecursion (AllByRecursion Inline) (bytes_of ps) → used ≤ limit room.marks → done ≤ m → done ≤ room.ends
       → rules_of room end m done used ps ≡ Ok rs → Rest rs (bytes_of ps) × Given room m done used rs
-  rules_to [] rs done used inline fits le few e =
-      let (over, is) = past (ltb done m) _ _ _ (refused _ rs) e in
-      let none : [] ≡ rs = cc in
-      let le' = ltb-false done m over in
-      rw (← none) (ends, record { sound = refl; fits = omega arith; all = omega arith; lines = omega arith })
+  rules_to [] [] done used inline fits le few e = (ends, grind (arith, nat_tests))
+  rules_to [] (r ∷ rs) done used inline fits le few e = grind arith
   rules_to (l ∷ ls) rs done used inline fits le few e =
       elim (step_rules done used l ls rs e) [
         | inl k ↦
             let (h, g) = rules_to ls rs done used inline.1 fits le few k.1 in
-            (skips (subst (λ ws. Counts ws l.bytes) (ap bytes_of k.0) (counted_of l.bytes inline.0)) h, g)
+            (skips (rw k.0 at (counted_of l.bytes inline.0)) h, g)
         | inr k ↦
             let (r, more, is, lt, rule, rest) = k in
-            let (r', same, written, kept) = rule_to room (place_of done used l) (counted l.bytes) [] r refl (omega arith) (λ e. absurd (true≢false e)) rule in
+            let (r', same, written, kept) = rule_to room (place_of done used l) (counted l.bytes) [] r refl (omega arith) (λ e. cc) rule in
             let (h, g) = rules_to ls more (done + 1) (used + length r) inline.1 kept.fits (omega arith) kept.line rest in
-            rw is (reads (written_line r l.bytes inline.0 (rw same written)) h, given_from room m done used r more l kept g)
+            rw is (reads (written_line r l.bytes inline.0 (rw same written)) h, grind arith)
       ]

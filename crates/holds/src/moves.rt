@@ -25,6 +25,13 @@ impl Holds {
         }
     }
 
+    // The held marks, in the order in which they were accepted.
+    pub fn marks(&self) -> &[Mark]
+        ensures { result.now ≡ holds_of self.now }
+    {
+        &self.order
+    }
+
     // Whether a part is held.
     pub fn names(&self, part: usize) -> bool
         ensures { result ≡ names_part (holds_of self.now) part }

@@ -1,5 +1,5 @@
 -- Codes and rows of codes: 0 open (or not named), 1 in, 2 out.
-use Rattle.std.specs.Prelude.{ℕ, Bool, cond, ◌&&◌, List, length, Some, None, Option, ◌==◌, nat_le}
+use Rattle.std.specs.Prelude.{ℕ, Bool, cond, ◌&&◌, List, length, Some, None, codes, Option, ◌==◌, nat_le}
 use Rattle.std.specs.List.{list_all}
 use Rattle.parts.specs.declared.Side.{Side}
 use Rattle.parts.specs.declared.Side.TheVariants.{In, Out}
@@ -8,6 +8,11 @@ use Rattle.parts.specs.declared.Side.TheVariants.{In, Out}
 abbrev pub code_of : Side → ℕ
 code_of In = 1
 code_of Out = 2
+
+-- a side is printed as a word
+abbrev pub side_text : Side → List ℕ
+side_text In = codes "in"
+side_text Out = codes "out"
 
 -- the side that a code stands for
 abbrev pub side_of : ℕ → Option Side

@@ -1,5 +1,6 @@
--- The number of each refusal: the one place where the list's numbers stand.
-use Rattle.std.specs.Prelude.{ℕ}
+-- The number of each refusal, the one place where the list's numbers stand; and how refusals and faults are printed.
+use Rattle.std.specs.Prelude.{ℕ, List, ◌∷◌, ◌++◌, decimal}
+use Rattle.parts.specs.declared.refusals.Fault.{Fault}
 use Rattle.parts.specs.declared.refusals.Refusal.{Refusal}
 use Rattle.parts.specs.declared.refusals.Refusal.TheVariants.{TextTooLong, NoHead, SizeOutOfRange, MalformedRule, PartAboveN, PartNamedTwice, TableFull, RuleCount}
 use Rattle.parts.specs.declared.refusals.Refusal.TheVariants.{NotWritable, NotABook, JoinPartsDiffer, JoinTooManyRules, NotAShelf, NotAPicker}
@@ -34,3 +35,11 @@ number_of NoSuchVerdict = 24
 number_of ShelfOutOfRange = 25
 number_of MalformedSheet = 26
 number_of SheetOutOfOrder = 27
+
+-- a refusal is printed as its number
+abbrev pub refusal_text : Refusal → List ℕ
+refusal_text r = decimal (number_of r)
+
+-- a fault is printed as number, byte and rule, parted by tabs (byte 9)
+abbrev pub fault_text : Fault → List ℕ
+fault_text f = refusal_text f.refusal ++ (9 ∷ decimal f.byte ++ (9 ∷ decimal f.rule))

@@ -1,16 +1,17 @@
 // The vocabulary of the bench: sides, marks, codes and rows of codes, refusals, faults.
 #![tactic(auto)]
 
-ghost use Rattle.std.specs.Prelude.{◌≡◌, ℕ};
+ghost use Rattle.std.specs.Prelude.{◌≡◌, ℕ, Some};
 ghost use Rattle.std.specs.Option.{ok_or};
 ghost use Rattle.parts.specs.declared.refusals.Refusal.TheVariants.{NoSide};
-ghost use Rattle.parts.specs.Codes.{code_of, side_of, is_row};
+ghost use Rattle.parts.specs.Codes.{code_of, side_of, side_text, is_row};
 ghost use Rattle.parts.specs.Marks.{mark_from, other_side, opposite_of};
 
 pub mod limits;
 pub mod refusals;
 
 use refusals::Refusal;
+use std::fmt;
 
 // Where a mark puts its part (the literal's sign), by its code in a row: 1 in, 2 out; 0 is left for an open part.
 // The default, as that of a mark, only fills what a table has not used yet.
@@ -42,6 +43,18 @@ impl TryFrom<u64> for Side {
             2 => Ok(Side::Out),
             _ => Err(Refusal::NoSide),
         }
+    }
+}
+
+// In or out.
+impl fmt::Display for Side {
+    ghost output = { λ side. Some (side_text side) };
+
+    fn fmt<W: fmt::Write>(&self, f: &mut fmt::Formatter<W>) -> fmt::Result {
+        f.write_str(match self {
+            Side::In => "in",
+            Side::Out => "out",
+        })
     }
 }
 

@@ -1,6 +1,6 @@
 // Every refusal of the bench, and the fault that a reading passes up.
-ghost use Rattle.std.specs.Prelude.{◌≡◌};
-ghost use Rattle.parts.specs.Numbers.{number_of};
+ghost use Rattle.std.specs.Prelude.{◌≡◌, Some};
+ghost use Rattle.parts.specs.Numbers.{number_of, refusal_text, fault_text};
 
 use std::fmt;
 
@@ -51,6 +51,8 @@ impl From<Refusal> for u8 {
 }
 
 impl fmt::Display for Refusal {
+    ghost output = { λ refusal. Some (refusal_text refusal) };
+
     fn fmt<W: fmt::Write>(&self, f: &mut fmt::Formatter<W>) -> fmt::Result {
         write!(f, "{}", u8::from(*self))
     }
@@ -68,12 +70,14 @@ pub struct Refused<T> {
 pub struct Fault {
     pub refusal: Refusal,
     pub byte: usize,
-    // Stays 0 in the head: it is printed as this number.
+    // Stays 0 in the head: it is a number of the list's format, and an Option would be turned into it wherever a fault is told.
     pub rule: usize,
 }
 
 // Number, byte and rule, parted by tabs.
 impl fmt::Display for Fault {
+    ghost output = { λ fault. Some (fault_text fault) };
+
     fn fmt<W: fmt::Write>(&self, f: &mut fmt::Formatter<W>) -> fmt::Result {
         write!(f, "{}\t{}\t{}", self.refusal, self.byte, self.rule)
     }

@@ -1,13 +1,13 @@
 -- The second pass, line by line.
-use Rattle.std.proofs.Common.{◌≡◌, ℕ, suc, ◌+◌, ◌≤◌, true, ltb, List, [], ◌∷◌, ◌++◌, map, length, set, ℤ, nat_abs, Ok, sym, refl, ap, ◌∙◌, subst, inl, inr, arith}
+use Rattle.std.proofs.Common.{◌≡◌, ℕ, ◌+◌, ◌≤◌, true, List, [], ◌∷◌, ◌++◌, map, length, set, ℤ, nat_abs, Ok, sym, ap, ◌∙◌, inl, inr, arith}
 use Rattle.std.proofs.lemmas.List.{length-append, length-map, nil_from_length}
 use Rattle.std.specs.List.{AllByRecursion}
-use Rattle.book.specs.Meaning.{Rule, count_marks}
+use Rattle.book.specs.Meaning.{Rule}
 use Rattle.book.specs.Tables.{mark_table, end_table, number_from}
+use Rattle.book.proofs.TableLaws.{length_marks, length_ends}
 use Rattle.grammar.specs.declared.Room.{Room}
 use Rattle.grammar.specs.Pieces.{Piece, counted}
 use Rattle.grammar.specs.Reading.{limit, rules_of}
-use Rattle.grammar.proofs.Turns.{past, refused}
 use Rattle.grammar.proofs.Lines.{lines_of, lines_inline}
 use Rattle.grammar.proofs.RuleLines.{place_of, step_rules, rules_to}
 use Rattle.reading.specs.Fills.{Front, filled, stored}
@@ -16,14 +16,6 @@ use Rattle.reading.specs.declared.pieces.Lines.{Lines}
 use Rattle.reading.proofs.Accepts.{rule_stores, numbers_back}
 use Rattle.reading.proofs.Fronts.{front_none, front_more, front_all}
 use Rattle.reading.proofs.Counting.{some_field, rules_counting}
-
-pub length_marks : (rs : List Rule) → length (mark_table rs) ≡ count_marks rs
-length_marks [] = refl
-length_marks (r ∷ rs) = rw (length-append, length-map, length_marks rs) refl
-
-pub length_ends : (from : ℕ) (rs : List Rule) → length (end_table from rs) ≡ length rs
-length_ends from [] = refl
-length_ends from (r ∷ rs) = ap (λ n. suc n) (length_ends (from + length r) rs)
 
 -- the room that these tables give
 abbrev pub room_in : ℕ → List ℤ → List ℕ → Room
@@ -38,8 +30,9 @@ module _ (room : Room) (end m : ℕ) (rs : List Rule) (marks₀ : List ℤ) (end
     pub in_marks : Front marks₀ (mark_table rs) (mark_table left) marks used
     pub in_ends : Front ends₀ (end_table 0 rs) (end_table used left) ends done
 
+module _ {room : Room} {end m : ℕ} {rs : List Rule} {marks₀ : List ℤ} {ends₀ : List ℕ} where
   -- at first nothing is
-  pub fills_none : (lines : Lines) → room.marks ≡ length marks₀ → room.ends ≡ length ends₀ → rules_of room end m 0 0 (lines_left lines) ≡ Ok rs → Fills (lines_left lines) 0 0 marks₀ ends₀
+  pub fills_none : (lines : Lines) → room.marks ≡ length marks₀ → room.ends ≡ length ends₀ → rules_of room end m 0 0 (lines_left lines) ≡ Ok rs → Fills room end m rs marks₀ ends₀ (lines_left lines) 0 0 marks₀ ends₀
   fills_none lines hm he e =
       let all = all_lines lines in
       let g = (rules_to room end m all rs 0 0 (lines_inline _ _ (lines_of lines.at lines.rest.now)) (omega arith) (omega arith) (omega arith) (sym (rules_counting room end m all 0 0) ∙ e)).1 in
@@ -51,7 +44,7 @@ module _ (room : Room) (end m : ℕ) (rs : List Rule) (marks₀ : List ℤ) (end
         in_ends = front_none ends₀ (end_table 0 rs) (omega (arith, length_ends 0 rs, g.all, g.lines));
       }
 
-  module _ (lines : List Piece) (done used : ℕ) (marks : List ℤ) (ends : List ℕ) (f : Fills lines done used marks ends) (l : Piece) (ls : List Piece) (e : lines ≡ l ∷ ls) where
+  module _ {lines : List Piece} {done used : ℕ} {marks : List ℤ} {ends : List ℕ} (f : Fills room end m rs marks₀ ends₀ lines done used marks ends) {l : Piece} {ls : List Piece} (e : lines ≡ l ∷ ls) where
     -- what the next line stores
     pub record Takes : Type 0 where
       pub rule : Rule
@@ -65,7 +58,7 @@ module _ (room : Room) (end m : ℕ) (rs : List Rule) (marks₀ : List ℤ) (end
     pub fills_rule : counts l ≡ true → Takes
     fills_rule c =
         elim (step_rules room end m done used l ls f.left (sym (ap (rules_of room end m done used) e) ∙ f.reads)) [
-          | inl k ↦ let (g, gs, is) = some_field l c in absurd (omega (arith, ap length (sym k.0 ∙ is)))
+          | inl k ↦ let (g, gs, is) = some_field l c in grind (arith, k.0)
           | inr k ↦
               let (r, more, is, lt, rule, rest) = k in
               let t = rule_stores room (place_of done used l) [] (counted l.bytes) r rule in
@@ -73,7 +66,7 @@ module _ (room : Room) (end m : ℕ) (rs : List Rule) (marks₀ : List ℤ) (end
                 rule = r;
                 more = more;
                 left_is = is;
-                numbers = ap (map number_from) t.goes_on ∙ numbers_back (stored (counted l.bytes));
+                numbers = grind (arith, t.goes_on, numbers_back (stored (counted l.bytes)));
                 small = t.small;
                 few = t.fits (omega (arith, f.few));
                 reads = rest;
@@ -82,41 +75,38 @@ module _ (room : Room) (end m : ℕ) (rs : List Rule) (marks₀ : List ℤ) (end
 
     module _ (t : Takes) where
       pub rule_length : length t.rule ≡ length (stored (counted l.bytes))
-      rule_length = sym (length-map t.rule number_from) ∙ ap length t.numbers
+      rule_length = grind (arith, length-map t.rule number_from, t.numbers)
 
       -- and the tables after it
       pub fills_more : (used' : ℕ) (marks' : List ℤ) → used' ≡ used + length (stored (counted l.bytes))
-          → ((before all more : List ℤ) → Front before all (stored (counted l.bytes) ++ more) marks used → Front before all more marks' used') → Fills ls (done + 1) used' marks' (set ends done used')
+          → ((before all more : List ℤ) → Front before all (stored (counted l.bytes) ++ more) marks used → Front before all more marks' used') → Fills room end m rs marks₀ ends₀ ls (done + 1) used' marks' (set ends done used')
       fills_more used' marks' u goes =
           let is-used : used' ≡ used + length t.rule = omega (arith, rule_length) in
           record {
             left = t.more;
-            reads = ap (λ k. rules_of room end m (done + 1) k ls) is-used ∙ t.reads;
+            reads = rw is-used t.reads;
             few = omega (arith, t.few);
-            in_marks = goes marks₀ (mark_table rs) (mark_table t.more) (subst (λ (l : List ℤ). Front marks₀ (mark_table rs) l marks used) (ap mark_table t.left_is ∙ ap (λ l. l ++ mark_table t.more) t.numbers) f.in_marks);
-            in_ends =
-                front_more ends₀ (end_table 0 rs) (end_table used' t.more) ends done used'
-                (subst (λ (l : List ℕ). Front ends₀ (end_table 0 rs) l ends done) (ap (end_table used) t.left_is ∙ ap (λ k. k ∷ end_table k t.more) (sym is-used)) f.in_ends);
+            in_marks = goes marks₀ (mark_table rs) (mark_table t.more) (rw (t.left_is, t.numbers) at f.in_marks);
+            in_ends = front_more ends₀ (end_table 0 rs) (end_table used' t.more) ends done used' (rw (t.left_is, ← is-used) at f.in_ends);
           }
 
       -- there is room for the rule's marks
       pub marks_room : used + length (stored (counted l.bytes)) ≤ length marks
-      marks_room = omega (arith, f.in_marks.room, f.in_marks.long, ap length (ap mark_table t.left_is ∙ ap (λ l. l ++ mark_table t.more) t.numbers), length-append (stored (counted l.bytes)) (mark_table t.more))
+      marks_room = grind (arith, f.in_marks.room, f.in_marks.long, t.left_is, t.numbers, length-append (stored (counted l.bytes)) (mark_table t.more))
 
-  module _ (lines : List Piece) (done used : ℕ) (marks : List ℤ) (ends : List ℕ) (f : Fills lines done used marks ends) where
-    -- where no line is left, or no entry of the table of ends, no rule is
-    pub none_lines : lines ≡ [] → f.left ≡ []
-    none_lines e = by f.left (sym (ap (rules_of room end m done used) e) ∙ f.reads)
-      where
-        by : (left : List Rule) → rules_of room end m done used [] ≡ Ok left → left ≡ []
-        by left e = let (over, is) = past (ltb done m) _ _ _ (refused _ left) e in cc
+  module _ {lines : List Piece} {done used : ℕ} {marks : List ℤ} {ends : List ℕ} (f : Fills room end m rs marks₀ ends₀ lines done used marks ends) where
+    -- where no line is left, or no entry of the table of ends, no rule is, and all is filled
+    abbrev All : Type 0
+    All = (marks ≡ filled (mark_table rs) marks₀) × (ends ≡ filled (end_table 0 rs) ends₀)
 
-    pub none_ends : length ends₀ ≤ done → f.left ≡ []
-    none_ends h = nil_from_length f.left (omega (arith, f.in_ends.room, length_ends used f.left))
-
-    -- and all is filled
-    pub fills_all : f.left ≡ [] → (marks ≡ filled (mark_table rs) marks₀) × (ends ≡ filled (end_table 0 rs) ends₀)
+    fills_all : f.left ≡ [] → All
     fills_all none = (
-      front_all marks₀ (mark_table rs) marks used (subst (λ (l : List Rule). Front marks₀ (mark_table rs) (mark_table l) marks used) none f.in_marks),
-      front_all ends₀ (end_table 0 rs) ends done (subst (λ (l : List Rule). Front ends₀ (end_table 0 rs) (end_table used l) ends done) none f.in_ends),
+      front_all marks₀ (mark_table rs) marks used (rw none at f.in_marks),
+      front_all ends₀ (end_table 0 rs) ends done (rw none at f.in_ends),
     )
+
+    pub none_lines : lines ≡ [] → All
+    none_lines e = fills_all (grind (arith, f.reads))
+
+    pub none_ends : length ends₀ ≤ done → All
+    none_ends h = fills_all (nil_from_length f.left (omega (arith, f.in_ends.room, length_ends used f.left)))

@@ -1,5 +1,5 @@
 -- A table that is filled from its front.
-use Rattle.std.proofs.Common.{◌≡◌, ℕ, ◌+◌, ◌<◌, ◌≤◌, List, [], ◌∷◌, ◌++◌, length, take, drop, set, sym, refl, ap, ◌∙◌, arith}
+use Rattle.std.proofs.Common.{◌≡◌, ℕ, ◌+◌, ◌<◌, ◌≤◌, List, [], ◌∷◌, ◌++◌, length, take, drop, set, refl, ◌∙◌, arith}
 use Rattle.std.proofs.lemmas.List.{append-nil, append_assoc, length-set, length-take-le, take-append-drop, take_more_set, drop-set-lt, drop-drop}
 use Rattle.reading.specs.Fills.{Front}
 
@@ -15,13 +15,11 @@ module _ {X : Type 0} (before all : List X) where
       record {
         long = length-set table k x ∙ f.long;
         room = omega (arith, f.room);
-        front = ap (λ l. l ++ left) (take_more_set table k x inside) ∙ append_assoc (take k table) (x ∷ []) left ∙ f.front;
-        rest = drop-set-lt (k + 1) table k x (omega arith) ∙ sym (drop-drop 1 k table) ∙ ap (drop 1) f.rest ∙ drop-drop 1 k before;
+        front = rw (take_more_set table k x inside, append_assoc) f.front;
+        rest = rw (drop-set-lt (k + 1) table k x (omega arith), ← drop-drop 1 k table, f.rest) (drop-drop 1 k before);
       }
 
   -- all is written
   pub front_all : (table : List X) (k : ℕ) → Front before all [] table k → table ≡ all ++ drop (length all) before
   front_all table k f =
-      let is : take k table ≡ all = sym (append-nil _) ∙ f.front in
-      let long : k ≡ length all = sym (length-take-le k table (omega (arith, f.room, f.long))) ∙ ap length is in
-      sym (take-append-drop k table) ∙ ap (λ l. l ++ drop k table) is ∙ ap (λ l. all ++ l) (f.rest ∙ ap (λ n. drop n before) long)
+      grind (arith, f.front, f.rest, append-nil (take k table), length-take-le k table (omega (arith, f.room, f.long)), take-append-drop k table)

@@ -1,3 +1,4 @@
+mod Leading
 pub mod Runs
 pub mod Counting
 pub mod RuleSteps

@@ -1,6 +1,6 @@
 -- What a reading replies and leaves, by what the text reads as.
-use Rattle.std.proofs.Common.{◌≡◌, ℕ, ◌<◌, ◌≤◌, ltb, List, length, ℤ, Ok, Err, Result, sym, refl, ap, ◌∙◌, arith}
-use Rattle.std.proofs.lemmas.Bool.{lt-ltb, le-ltb, cond-true, cond-false}
+use Rattle.std.proofs.Common.{◌≡◌, ℕ, ◌<◌, ◌≤◌, List, length, ℤ, Ok, Err, Result, sym, refl, ap, ◌∙◌, arith}
+use Rattle.std.proofs.lemmas.Bool.Decides.{nat_tests}
 use Rattle.parts.specs.declared.refusals.Fault.{Fault}
 use Rattle.parts.specs.declared.refusals.Refusal.TheVariants.{TextTooLong}
 use Rattle.book.specs.Meaning.{Rule, Rules}
@@ -13,22 +13,20 @@ use Rattle.grammar.specs.Reading.{fault, rules_of, from_head, read_of}
 use Rattle.grammar.proofs.Accepted.{reading_is_the_format}
 use Rattle.grammar.proofs.Lines.{lines_of, lines_inline}
 use Rattle.grammar.proofs.RuleLines.{rules_to}
-use Rattle.grammar.proofs.Turns.{refused}
 use Rattle.reading.specs.Checks.{passed}
 use Rattle.reading.specs.Pieces.{all_lines, lines_left}
 use Rattle.reading.specs.declared.pieces.Lines.{Lines}
 use Rattle.reading.proofs.Counting.{rules_counting}
 use Rattle.reading.specs.Fills.{filled}
-use Rattle.reading.specs.Replies.{told, rules_in, LaysIt}
+use Rattle.reading.specs.Replies.{told, LaysIt}
 
 -- what the first pass tells of the rules
 pub rules_passed : (x : Result (List Rule) Fault) → Ok tt ≡ passed x → (rs : List Rule) × (x ≡ Ok rs)
 rules_passed (Ok rs) e = (rs, refl)
-rules_passed (Err d) e = absurd (refused d tt (sym e))
+rules_passed (Err d) e = cc
 
 pub rules_refused : (x : Result (List Rule) Fault) (d : Fault) → Err d ≡ passed x → x ≡ Err d
-rules_refused (Ok rs) d e = absurd (refused d tt e)
-rules_refused (Err f) d e = cc
+rules_refused x d e = grind arith
 
 module _ (marks₀ : List ℤ) (ends₀ : List ℕ) (text : List ℕ) where
   abbrev pub reads : Result Rules Fault
@@ -36,22 +34,11 @@ module _ (marks₀ : List ℤ) (ends₀ : List ℕ) (text : List ℕ) where
 
   pub too_long : 60000 < length text → reads ≡ Err (fault TextTooLong 60000 0)
   unfolding read_of
-  too_long h = cond-true (ltb 60000 (length text)) _ _ (lt-ltb 60000 (length text) h)
+  too_long h = grind (arith, nat_tests)
 
   pub by_lines : length text ≤ 60000 → reads ≡ from_head (length marks₀) (length ends₀) (length text) (lines 0 text)
   unfolding read_of
-  by_lines h = cond-false (ltb 60000 (length text)) _ _ (le-ltb 60000 (length text) h)
-
-  -- what the tables are filled with, and what is told, where the text reads as x
-  module _ (x : Result Rules Fault) (e : reads ≡ x) where
-    pub reply_is : told x ≡ told reads
-    reply_is = ap told (sym e)
-
-    pub marks_are : filled (mark_table (rules_in x)) marks₀ ≡ filled (mark_table (rules_in reads)) marks₀
-    marks_are = ap (λ y. filled (mark_table (rules_in y)) marks₀) (sym e)
-
-    pub ends_are : filled (end_table 0 (rules_in x)) ends₀ ≡ filled (end_table 0 (rules_in reads)) ends₀
-    ends_are = ap (λ y. filled (end_table 0 (rules_in y)) ends₀) (sym e)
+  by_lines h = grind (arith, nat_tests)
 
   -- the book that was read may be laid over the tables that it filled
   pub lays_read : (size : Size) (rs : List Rule) (marks : List ℤ) (ends : List ℕ) → reads ≡ Ok (record { n = size.n; rules = rs }) → length rs ≡ size.m → marks ≡ filled (mark_table rs) marks₀ → ends ≡ filled (end_table 0 rs) ends₀ → LaysIt reads marks ends size
@@ -69,5 +56,4 @@ all_read room end m rs lines e =
 
 -- a fault that is told is the text's
 pub fault_told : (x : Result Rules Fault) (f : Fault) → Err f ≡ told x → x ≡ Err f
-fault_told (Ok b) f e = absurd (refused f _ e)
-fault_told (Err g) f e = cc
+fault_told x f e = grind arith

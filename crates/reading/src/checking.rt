@@ -132,6 +132,7 @@ impl<'a> Head<'a> {
         requires { room.n ≤ 120 }
         ensures { MatchResult result (Leaves self.now room) (λ e. Err e ≡ passed (rules_of room (text_end self.now.rules) self.now.size.m 0 0 (lines_left self.now.rules))) }
     {
+        // Stays a for: the lines that are left go along with the total, and are what is told.
         let mut lines = self.rules;
         let mut used = 0;
         for rule in 1..=self.size.m {

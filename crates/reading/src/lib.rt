@@ -16,7 +16,7 @@ mod checking;
 mod filling;
 mod head;
 pub mod loading;
-mod numbers;
+pub mod numbers;
 mod pieces;
 
 use filling::fill;

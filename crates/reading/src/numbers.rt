@@ -6,7 +6,7 @@ ghost use Rattle.grammar.specs.Numbers.{number as number_in, signed as signed_in
 const MOST_DIGITS: usize = 5;
 
 // The number that the bytes write: 0, or a digit 1 to 9 and up to four more digits.
-pub(crate) fn number(bytes: &[u8]) -> Option<usize>
+pub fn number(bytes: &[u8]) -> Option<usize>
     ensures value { result ≡ number_in bytes.now }
     ensures small { IfSome result (λ v. v < 100000) }
 {

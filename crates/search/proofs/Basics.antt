@@ -1,4 +1,4 @@
--- Answers, marks, membership, and lists by place.
+-- Opposites, membership, and lists by place.
 use Rattle.std.proofs.Common.{◌≡◌, ℕ, zero, suc, ◌+◌, ◌<◌, ◌≤◌, ◌⊎◌, cond, eqb, List, [], ◌∷◌, ◌++◌, map, length, set, Some, None, Option, inl, inr, arith}
 use Rattle.std.specs.List.{slice_get}
 use Rattle.std.proofs.lemmas.Grind.{common_steps}
@@ -10,23 +10,7 @@ use Rattle.search.specs.Trail.{from}
 use Rattle.search.specs.Machine.{first}
 use Rattle.search.specs.Law.{Among}
 
--- what tells an answer from none
-pub clash : ◌≡◌ {A = ℕ} 0 1 → ⊥
-clash h = omega arith
-
-pub some_eq : {A : Type 0} {x y : A} → Some x ≡ Some y → x ≡ y
-some_eq h = cc
-
-pub none_some : {A : Type 0} {x : A} → None ≡ Some x → ⊥
-none_some h = cc
-
-pub some_none : {A : Type 0} {x : A} → Some x ≡ None → ⊥
-some_none h = cc
-
--- marks
-pub part_eq : {a b : Mark} → a ≡ b → a.part ≡ b.part
-part_eq e = cc
-
+-- opposites
 pub twice_opposite : (x y : Mark) → y ≡ opposite_of x → x ≡ opposite_of y
 twice_opposite x y e = grind arith
 

@@ -15,7 +15,7 @@ use Rattle.search.specs.Trail.{Trail, Row, from}
 use Rattle.search.specs.Machine.{Places, rule_at, or_else, first, is_place, needed, is_empty, around, when, or_zero, next_place, sweep}
 use Rattle.search.specs.Law.{Among}
 use Rattle.search.proofs.Basics.{among_left, among_right, among_either, among_from, from_among, first_some, first_none, item_set}
-use Rattle.search.proofs.Tally.{tally, tally_most, tally_free}
+use Rattle.search.proofs.Tally.{tally, tally_none, tally_most, tally_free}
 use Rattle.search.proofs.Invariant.{Why, Sound}
 
 -- the places in their round are 1 to k
@@ -36,14 +36,9 @@ place_other : (k : Kind) → (x : ℕ) × ((p : ℕ) → p ≢ x → is_place p 
 place_other (Forced (Shelf j)) = (j, λ p n. grind arith)
 place_other k = (0, λ p n. grind arith)
 
-false_tally : (i k : ℕ) → tally (needed []) i k ≡ 0
-unfolding tally needed
-false_tally i zero = refl
-false_tally i (suc k) = false_tally (suc i) k
-
 pub needed_tally : (t : Trail) (k : ℕ) → tally (needed t) 1 k ≤ length t
 unfolding needed
-needed_tally [] k = omega (arith, false_tally 1 k)
+needed_tally [] k = omega (arith, tally_none (needed []) 1 k (λ p. refl))
 needed_tally (e ∷ t) k =
     let (x, other) = place_other e.kind in
     let most = tally_most (needed t) (needed (e ∷ t)) x 1 k (λ p n. rw (other p n)) in

@@ -1,7 +1,9 @@
 -- Rows of codes as rules: what is named after marks are written in or a part is left out.
-use Rattle.std.proofs.Common.{◌≡◌, ℕ, zero, suc, ◌+◌, ◌-◌, ◌≤◌, true, false, ◌≢◌, ◌⊎◌, [], ◌∷◌, length, set, replicate, Some, Option, refl, inl, inr, arith}
+use Rattle.std.proofs.Common.{◌≡◌, ℕ, zero, suc, ◌+◌, ◌-◌, ◌≤◌, true, false, ◌≢◌, ◌⊎◌, [], ◌∷◌, length, nat_le, set, replicate, Some, Option, refl, inl, inr, arith}
 use Rattle.std.specs.List.{slice_get}
 use Rattle.std.proofs.lemmas.Grind.{common_steps}
+use Rattle.std.proofs.lemmas.List.Recursion.{and_set}
+use Rattle.std.proofs.lemmas.Bool.Decides.{nat_tests}
 use Rattle.std.proofs.lemmas.Option.{gets}
 use Rattle.parts.specs.Codes.{code_of, side_of, all_codes}
 use Rattle.parts.specs.Marks.{opposite_of}
@@ -55,9 +57,7 @@ enter_length c (m ∷ r) = grind (arith, common_steps, enter_length (put c m) r)
 
 -- codes stay codes
 set_codes : (c : Row) (j v : ℕ) → v ≤ 2 → all_codes c ≡ true → all_codes (set c j v) ≡ true
-set_codes [] j v l h = h
-set_codes (x ∷ c) zero v l h = grind arith
-set_codes (x ∷ c) (suc j) v l h = grind (arith, set_codes c j v)
+set_codes c j v l h = and_set all_codes (λ c. nat_le c 2) refl (λ x xs. refl) c j v (grind (arith, nat_tests)) h
 
 pub enter_codes : (c : Row) (r : Rule) → all_codes c ≡ true → all_codes (enter c r) ≡ true
 unfolding enter

@@ -1,5 +1,5 @@
 -- The settled row: its codes, and the choice that it shows; and the parts that a lawful bench speaks of.
-use Rattle.std.proofs.Common.{◌≡◌, ℕ, zero, suc, ◌+◌, ◌-◌, ◌<◌, ◌≤◌, true, false, ◌≢◌, List, [], ◌∷◌, map, length, Some, None, Option, arith}
+use Rattle.std.proofs.Common.{◌≡◌, ℕ, zero, suc, ◌+◌, ◌-◌, ◌<◌, ◌≤◌, true, false, ◌≢◌, List, [], ◌∷◌, map, length, Some, None, arith}
 use Rattle.std.specs.List.{slice_get}
 use Rattle.std.proofs.lemmas.Grind.{common_steps}
 use Rattle.std.proofs.lemmas.Option.{gets}
@@ -45,9 +45,6 @@ pub settled_row : (n : ℕ) (t : Trail) → is_row n (row n t) ≡ true
 unfolding row
 settled_row n t = grind (arith, length_row n t, codes_from t 1 n)
 
-pub code_open : (v : Option Side) → code v ≡ 0 → v ≡ None
-code_open v h = grind arith
-
 -- in a row with no open part each part is settled
 pub row_settled : (t : Trail) (i k p : ℕ) → all_settled (map (λ p. code (settled t p)) (from i k)) ≡ true → i ≤ p → p < i + k → settled t p ≢ None
 unfolding from all_settled
@@ -59,7 +56,7 @@ pub shown_settled : (n : ℕ) (t : Trail) (p : ℕ) (s : Side) → 1 ≤ p → p
 shown_settled n t p s a b h = grind (arith, place_row n t p)
 
 -- the rules of a lawful bench are over its parts
-rule_within : (n : ℕ) (r : Rule) → sound_rule n r ≡ true → Ranged n r
+pub rule_within : (n : ℕ) (r : Rule) → sound_rule n r ≡ true → Ranged n r
 rule_within n [] h y i = absurd i
 rule_within n (m ∷ r) h y i = grind (arith, rule_within n r)
 

@@ -5,6 +5,11 @@ unfoldable pub tally : (ℕ → Bool) → ℕ → ℕ → ℕ
 tally q i zero = 0
 tally q i (suc k) = cond (q i) (suc (tally q (suc i) k)) (tally q (suc i) k)
 
+pub tally_none : (q : ℕ → Bool) (i k : ℕ) → ((p : ℕ) → q p ≡ false) → tally q i k ≡ 0
+unfolding tally
+tally_none q i zero h = grind arith
+tally_none q i (suc k) h = grind (arith, h i, tally_none q (suc i) k h)
+
 pub tally_le : (q : ℕ → Bool) (i k : ℕ) → tally q i k ≤ k
 unfolding tally
 tally_le q i zero = grind arith

@@ -1,5 +1,5 @@
 -- The turn: what the working rule keeps, and what the turn ends in.
-use Rattle.std.proofs.Common.{◌≡◌, ℕ, zero, suc, ◌+◌, ◌-◌, ◌*◌, ◌^◌, ◌<◌, ◌≤◌, Bool, true, false, ◌&&◌, ◌≢◌, ◌⊎◌, [], ◌∷◌, length, Some, None, Option, sym, refl, inl, inr, le_trans, pow-suc, arith}
+use Rattle.std.proofs.Common.{◌≡◌, ℕ, suc, ◌+◌, ◌-◌, ◌*◌, ◌^◌, ◌<◌, ◌≤◌, Bool, true, false, ◌&&◌, ◌≢◌, ◌⊎◌, [], ◌∷◌, length, Some, None, Option, sym, refl, inl, inr, le_trans, pow-suc, arith}
 use Rattle.std.proofs.lemmas.Bool.{cases_Bool, cases_eq}
 use Rattle.parts.specs.Codes.{all_codes}
 use Rattle.parts.specs.Marks.{opposite_of}
@@ -14,7 +14,7 @@ use Rattle.search.specs.Trail.{Trail, Row, settled, names_mark, enter, leave}
 use Rattle.search.specs.Machine.{resolve, worked, is_picked, Outcome, bottom, stop, turn}
 use Rattle.search.specs.Law.{Among, Choice}
 use Rattle.search.proofs.Basics.{twice_opposite}
-use Rattle.search.proofs.Tally.{tally, tally_le, tally_more}
+use Rattle.search.proofs.Tally.{tally, tally_none, tally_le, tally_more}
 use Rattle.search.proofs.Rows.{Names, Within, names_true, true_names, enter_length, enter_codes, enter_stays, enter_comes, enter_from, leave_length, leave_codes, leave_from, leave_stays}
 use Rattle.search.proofs.Invariant.{Failed, Ranged, Follows, Kept, Why, Sound, worth}
 
@@ -31,14 +31,9 @@ abbrev pub filled : Option Side → Bool
 filled None = false
 filled (Some s) = true
 
-tally_none : (i k : ℕ) → tally (λ p. filled (settled [] p)) i k ≡ 0
-unfolding tally settled
-tally_none i zero = refl
-tally_none i (suc k) = tally_none (suc i) k
-
 pub sound_settled : (n : ℕ) (hs : Rule) (at : Reason → Option Rule) (t : Trail) → Sound n hs at t → length t ≡ tally (λ p. filled (settled t p)) 1 n
 unfolding settled
-sound_settled n hs at [] s = sym (tally_none 1 n)
+sound_settled n hs at [] s = sym (tally_none (λ p. filled (settled [] p)) 1 n (λ p. refl))
 sound_settled n hs at (e ∷ t) s =
     let more = tally_more (λ p. filled (settled t p)) (λ p. filled (settled (e ∷ t) p)) e.mark.part 1 n (λ p ne. grind arith) (grind arith) (grind arith) in
     grind (arith, more, sound_settled n hs at t s.3)

@@ -5,3 +5,4 @@ pub mod Law
 pub mod Table
 pub mod History
 pub mod Histories
+pub mod Words

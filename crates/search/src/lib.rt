@@ -1,13 +1,15 @@
 // The search by definition: its types, and the law that holds after every list of calls. The definitions are in specs/.
 #![tactic(auto)]
 
-ghost use Rattle.std.specs.Prelude.{◌≡◌, length};
+ghost use Rattle.std.specs.Prelude.{◌≡◌, length, Some};
 ghost use Rattle.search.specs.Machine.{reason_in};
+ghost use Rattle.search.specs.Words.{told_text};
 ghost use Rattle.search.specs.Law.{SearchKeepsItsPromises, CallsLeaveTheRest};
 ghost use Rattle.search.specs.Table.{table, CasesHold};
 ghost use Rattle.search.specs.Histories.{histories, HistoriesHold};
 
 use parts::Mark;
+use std::fmt;
 
 // Why a part is forced (its antecedent clause): a rule of the book, or a place on the shelf; both count from 1.
 #[derive(Clone, Copy, Debug, PartialEq, Eq)]
@@ -66,6 +68,19 @@ pub enum Told {
     Fits,
     NoneFits,
     Spent,
+}
+
+// One word.
+impl fmt::Display for Told {
+    ghost output = { λ told. Some (told_text told) };
+
+    fn fmt<W: fmt::Write>(&self, f: &mut fmt::Formatter<W>) -> fmt::Result {
+        f.write_str(match self {
+            Told::Fits => "fits",
+            Told::NoneFits => "none",
+            Told::Spent => "spent",
+        })
+    }
 }
 
 // The reply of a run: what it tells, and the steps and turns since the opening or the last accepted hold or release.

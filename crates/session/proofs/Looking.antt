@@ -11,10 +11,10 @@ use Rattle.book.specs.Meaning.{Rule, sound_rule}
 use Rattle.shelf.specs.Meaning as shelves
 use Rattle.search.specs.declared.Reason.{Reason}
 use Rattle.search.specs.declared.Reason.TheVariants.{Book, Shelf}
-use Rattle.search.specs.Law.{Among}
 use Rattle.search.specs.Machine.{Bench, Machine, Move, Press, turn_on, force, all_settled, choose, first, if_broken, if_crossed, if_open, if_pressing, look, or_else, reason_of, reasons, rule_at, state_of}
 use Rattle.search.specs.Trail.{Row, State, Trail, from, pressing, row, truth}
 use Rattle.search.proofs.Basics.{first_some}
+use Rattle.search.proofs.Settled.{rule_within}
 use Rattle.search.proofs.States.{Says, open_some, state_says}
 use Rattle.scan.specs.Lists.{book_within, shelf_within}
 use Rattle.session.specs.Moving.{Open}
@@ -30,23 +30,18 @@ use Rattle.turns.proofs.Working.{book_rule, shelf_rule}
 pub row_asked : (n k : ℕ) (t : Trail) (r : Row) → n ≤ 120 → k ≡ n → r ≡ row 120 t → take k r ≡ row n t
 row_asked n k t r h p q = grind (arith, row_front n t h)
 
--- the part of any mark of a sound rule
-among_sound : (n : ℕ) (r : Rule) (x : Mark) → sound_rule n r ≡ true → Among x r → (1 ≤ x.part) × (x.part ≤ n)
-among_sound n [] x s i = absurd i
-among_sound n (m ∷ r) x s i = grind (arith, among_sound n r x)
-
 -- an open hold
 pub hold_free : (t : Trail) (hs : List Mark) (m : Mark) → sound_rule 120 hs ≡ true → first (λ h. if_open h (truth t h)) hs ≡ Some m → Open t m
 hold_free t hs m s e =
     let (x, i, o) = first_some (λ h. if_open h (truth t h)) hs m e in
-    grind (arith, open_some t x m o, among_sound 120 hs x s i)
+    grind (arith, open_some t x m o, rule_within 120 hs s x i)
 
 -- the mark of a pressing rule
 rule_free : (t : Trail) (o : Option Rule) (x : Mark) → sound_one 120 o ≡ true → scans.state_of (row 120 t) o ≡ pressing x → Open t x
 rule_free t None x s e = grind arith
 rule_free t (Some r) x s e =
     let says = subst (Says t r) (sym (state_agrees t r s) ∙ e) (state_says t r) in
-    grind (arith, says, among_sound 120 r x s)
+    grind (arith, says, rule_within 120 r s x)
 
 scan_free : (t : Trail) (i : ℕ) (os : List (Option Rule)) (j : ℕ) (x : Mark) → ((k : ℕ) → sound_one 120 (get_or os k None) ≡ true) → scan_of (row 120 t) i os ≡ Pressing j x → Open t x
 scan_free t i [] j x s e = grind arith

@@ -1,5 +1,5 @@
--- Two states are one where their fields are; open marks; where a turn stops.
-use Rattle.std.proofs.Common.{◌≡◌, ℕ, ◌-◌, ◌≤◌, Bool, true, cond, List, [], ◌∷◌, take, set, Some, Option, arith}
+-- What a step does; open marks; where a turn stops.
+use Rattle.std.proofs.Common.{◌≡◌, ℕ, ◌-◌, ◌≤◌, true, List, [], ◌∷◌, take, set, Some, Option, arith}
 use Rattle.std.proofs.Math.Seq.{take-set-lt}
 use Rattle.std.proofs.lemmas.Grind.{common_steps}
 use Rattle.std.proofs.lemmas.List.{set_past, take-replicate}
@@ -12,7 +12,7 @@ use Rattle.picker.specs.Meaning.{Picks, picked}
 use Rattle.search.specs.declared.Reason.{Reason}
 use Rattle.search.specs.Trail as trails
 use Rattle.search.specs.Trail.{Row, row, names_mark, enter}
-use Rattle.search.specs.Machine.{Machine, stop, turn, worked, named_holds}
+use Rattle.search.specs.Machine.{Bench, Machine, Move, look, act, step, stop, turn, worked, named_holds}
 use Rattle.search.proofs.Basics.{place_within}
 use Rattle.search.proofs.Settled.{place_row, length_row, answer_open}
 use Rattle.trail.specs.Stack.{apart}
@@ -20,16 +20,14 @@ use Rattle.trail.specs.Stacks.{can_push}
 use Rattle.session.specs.Moving.{Open}
 use Rattle.trail.proofs.Stacking.{unnamed, top_apart, can_push_from}
 
-pub same : (m m' : Machine) → m.holds ≡ m'.holds → m.trail ≡ m'.trail → m.shelf ≡ m'.shelf → m.last ≡ m'.last → m.steps ≡ m'.steps → m.turns ≡ m'.turns → m.verdict ≡ m'.verdict → m ≡ m'
-same m m' a b c d e f g = grind arith
+-- a step does the move that was looked for
+pub stepped : (b : Bench) (m : Machine) {m' : Machine} {x : Move} → x ≡ look b m → m' ≡ act b m x → m' ≡ step b m
+unfolding step
+stepped b m e q = grind arith
 
 -- an open mark may be settled
 pub open_push : (t : trails.Trail) (m : Mark) → Open t m → can_push t m ≡ true
 open_push t m (lo, hi, none) = can_push_from t m lo hi none
-
--- what was settled is on the trail
-pub put : {X : Type 0} {z : X} (x y : X) (r : Bool) → r ≡ true → z ≡ cond r x y → z ≡ x
-put x y r e q = grind arith
 
 -- the row of named holds over fewer parts is the front of that over more
 take_of_set : {X : Type 0} (n : ℕ) (l : List X) (i : ℕ) (a : X) → take n (set l i a) ≡ set (take n l) i a

@@ -1,19 +1,18 @@
 -- A run, a step at a time, and the law after it.
-use Rattle.std.proofs.Common.{◌≡◌, ℕ, suc, ◌+◌, ◌-◌, ◌<◌, ◌≤◌, Bool, false, not, ◌&&◌, ltb, ◌⊎◌, List, [], ◌∷◌, ◌++◌, Some, None, Ok, Err, Result, refl, arith}
+use Rattle.std.proofs.Common.{◌≡◌, ℕ, suc, ◌+◌, ◌-◌, ◌<◌, ◌≤◌, false, ◌⊎◌, List, [], ◌∷◌, ◌++◌, Some, None, Ok, Err, Result, refl, arith, true}
+use Rattle.std.proofs.lemmas.Bool.Decides.{nat_tests}
+use Rattle.shelf.specs.Meaning.{Shelved}
 use Rattle.parts.specs.declared.refusals.Refusal.{Refusal}
 use Rattle.parts.specs.declared.refusals.Refusal.TheVariants.{BudgetOutOfRange, StepsOutOfRange}
 use Rattle.book.specs.Meaning.{Rules}
 use Rattle.picker.specs.Meaning.{Picks}
 use Rattle.search.specs.declared.Report.{Report}
-use Rattle.session.specs.Standing.{verdict_of}
-use Rattle.session.specs.declared.verdict.Verdict.{Verdict}
-use Rattle.session.specs.declared.verdict.Verdict.TheVariants.{Working}
 use Rattle.search.specs.Machine.{Bench, Machine, is_told, look, step, run}
-use Rattle.search.specs.Calls.{Call, run_for, refuses, accepted, call, calls, opened, report, run_reply, if_so}
+use Rattle.search.specs.Calls.{Call, run_for, refuses, accepted, call, calls, opened, report, run_reply}
 use Rattle.search.proofs.Keeping.{act_steps}
 use Rattle.search.proofs.Promises.{search_keeps_its_promises}
 use Rattle.session.specs.declared.Session.{Session}
-use Rattle.session.specs.View.{bench_of, Kept, PromisedAfter}
+use Rattle.session.specs.View.{bench_of, Kept, PromisedAfter, machine_of}
 
 -- one step of a run
 pub run_more : (b : Bench) (k i : ℕ) (m : Machine) → i < k → is_told m.verdict ≡ false → run b (k - i) m ≡ run b (k - (i + 1)) (step b m)
@@ -29,10 +28,6 @@ run_done b k i m l = let e : k - i ≡ 0 = omega arith in rw e
 pub step_steps : (b : Bench) (m : Machine) → (step b m).steps ≡ suc m.steps
 unfolding step
 step_steps b m = act_steps b m (look b m)
-
--- what is told where no verdict stands
-pub untold : (n : ℕ) (v : Verdict) → is_told (verdict_of n v) ≡ false → v ≡ Working
-untold n v e = grind arith
 
 -- what is kept stays kept
 module _ {B P S : Type 0} where
@@ -57,7 +52,7 @@ pub record Runs (b : Bench) (m : Machine) (k : ℕ) (r : Result Report Refusal) 
   pub after : m' ≡ call b (run_for k) m
   pub law : PromisedAfter b m (run_for k) m'
 
-pub run_refused : (b : Bench) (m : Machine) (k : ℕ) (why : Refusal) → refuses b m (run_for k) ≡ Some why → Runs b m k (Err why) m
+run_refused : (b : Bench) (m : Machine) (k : ℕ) (why : Refusal) → refuses b m (run_for k) ≡ Some why → Runs b m k (Err why) m
 unfolding call
 run_refused b m k why e =
     let same : m ≡ call b (run_for k) m = grind arith in
@@ -69,12 +64,23 @@ run_allowed b m k m' r e q p =
     let same : m' ≡ call b (run_for k) m = grind arith in
     record { answer = grind arith; after = same; law = promised_after b m (run_for k) m' same }
 
--- each refusal of a run, and none
-module _ (b : Bench) (m : Machine) (k : ℕ) where
-  pub budget_out : (k ≡ 0) ⊎ ((k ≡ 0 → ⊥) × (1000000 < k)) → refuses b m (run_for k) ≡ Some BudgetOutOfRange
-  unfolding refuses
-  budget_out h = grind arith
+-- each refusal of a session's run, and none
+module _ {B P S : Type 0} (rules : B → Rules) (picks : P → Picks) (shelved : S → Shelved) (s : Session B P S) (k : ℕ) where
+  abbrev b : Bench
+  b = bench_of rules picks s
 
-  pub budget_in : (k ≡ 0 → ⊥) → k ≤ 1000000 → (v : Bool) → v ≡ is_told m.verdict → (w : Bool) → ltb 50000000 (m.steps + k) ≡ w → refuses b m (run_for k) ≡ if_so (not v && w) StepsOutOfRange None
+  abbrev m : Machine
+  m = machine_of rules shelved s
+
+  pub budget_out : (k ≡ 0) ⊎ ((k ≡ 0 → ⊥) × (1000000 < k)) → Runs b m k (Err BudgetOutOfRange) m
   unfolding refuses
-  budget_in a c v e w f = grind arith
+  budget_out h = run_refused b m k BudgetOutOfRange (grind (arith, nat_tests))
+
+  module _ (some : k ≡ 0 → ⊥) (most : k ≤ 1000000) where
+    pub steps_out : is_told m.verdict ≡ false → 50000000 < m.steps + k → Runs b m k (Err StepsOutOfRange) m
+    unfolding refuses
+    steps_out e l = run_refused b m k StepsOutOfRange (grind (arith, nat_tests))
+
+    pub budget_in : (is_told m.verdict ≡ true) ⊎ (m.steps + k ≤ 50000000) → refuses b m (run_for k) ≡ None
+    unfolding refuses
+    budget_in h = grind (arith, nat_tests)

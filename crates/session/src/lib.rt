@@ -25,7 +25,7 @@ pub struct Session<B, P, S> {
     forget: Forgetting,
     holds: Holds,
     trail: Trail,
-    // Stays 0 before the first place: the definitions count from there.
+    // Stays 0 before the first place: going round starts after this number, so an Option would be turned into it at each use.
     last: usize,
     steps: usize,
     turns: usize,

@@ -66,9 +66,9 @@ fn in_range(forget: Forgetting) -> bool
 {
     match forget {
         Forgetting::KeepAll => true,
-        Forgetting::Size(i) => i <= MOST_PARTS,
-        Forgetting::Relevance(m) => m <= MOST_PARTS,
-        Forgetting::Bounded(k) => k <= MOST_PARTS,
+        Forgetting::Size(most) | Forgetting::Relevance(most) | Forgetting::Bounded(most) => {
+            most <= MOST_PARTS
+        }
         Forgetting::Both(k, m) => k <= MOST_PARTS && m <= MOST_PARTS,
     }
 }

@@ -16,6 +16,7 @@ pub enum Verdict {
 
 impl Verdict {
     // What a run tells of it.
+    // Stays a method: a verdict is lent, and From would take it.
     pub(crate) fn told(&self) -> Told
         ensures { (n : ℕ) → result ≡ told_of (verdict_of n self.now) }
     {

@@ -1,10 +1,10 @@
 -- A shelf as lists of marks: for each place an entry that is 0 where it is empty, else 1 more than how many marks its row names,
 -- and then these marks as numbers, by rising part.
-use Rattle.std.specs.Prelude.{◌≡◌, ℕ, zero, suc, ◌+◌, ◌-◌, ◌*◌, ◌/◌, ◌%◌, Bool, true, false, cond, ◌&&◌, List, [], ◌∷◌, map, length, take, drop, Some, None, Option, ◌==◌, nat_le, slice_index, refl}
+use Rattle.std.specs.Prelude.{◌≡◌, ℕ, zero, suc, ◌+◌, ◌-◌, ◌*◌, ◌/◌, ◌%◌, Bool, true, cond, ◌&&◌, List, [], ◌∷◌, map, length, take, drop, Option, ◌==◌, nat_le, slice_index, refl}
+use Rattle.std.proofs.lemmas.Bool.Decides.{nat_tests}
 use Rattle.std.specs.List.{find}
 use Rattle.std.specs.Option.{option_map, unwrap_or}
-use Rattle.std.proofs.Common.{ap, arith}
-use Rattle.std.proofs.lemmas.Bool.{and_from, eq-eqb, le-leb}
+use Rattle.std.proofs.Common.{arith}
 use Rattle.parts.specs.declared.Mark.{Mark}
 use Rattle.parts.specs.declared.Side.{Side}
 use Rattle.parts.specs.declared.Side.TheVariants.{In, Out}
@@ -60,37 +60,28 @@ abbrev pub listed : ℕ → ℕ → List ℕ → Shelved
 listed n places entries = read_by (read_marks n) n places entries
 
 -- whatever the marks are, the codes that they give are a row
-code_low : (s : Side) → nat_le (code_of s) 2 ≡ true
-code_low In = refl
-code_low Out = refl
-
 code_in_low : (ms : List Mark) (part : ℕ) → nat_le (code_in ms part) 2 ≡ true
 code_in_low [] part = refl
-code_in_low (m ∷ ms) part =
-    elim (m.part == part) as (λ b. nat_le (unwrap_or (option_map (λ m. code_of m.side) (cond b (Some m) (find (λ m. m.part == part) ms))) 0) 2 ≡ true) [ true ↦ code_low m.side | false ↦ code_in_low ms part ]
+code_in_low (m ∷ ms) part = grind (arith, code_in_low ms part)
 
 codes_low : (part count : ℕ) (ms : List Mark) → all_codes (codes_by part count ms) ≡ true
 codes_low part zero ms = refl
-codes_low part (suc count) ms = and_from _ _ (code_in_low ms part) (codes_low (suc part) count ms)
+codes_low part (suc count) ms = grind (arith, code_in_low ms part, codes_low (suc part) count ms)
 
 pub length_codes : (part count : ℕ) (ms : List Mark) → length (codes_by part count ms) ≡ count
 length_codes part zero ms = refl
-length_codes part (suc count) ms = ap suc (length_codes (suc part) count ms)
+length_codes part (suc count) ms = grind (arith, length_codes (suc part) count ms)
 
 pub read_row : (n : ℕ) (block : List ℕ) → sound_place n (read_marks n block) ≡ true
-read_row n block =
-    elim (slice_index block 0 == 0) as (λ b. sound_place n (cond b None (Some (list_row n block))) ≡ true) [
-      | true ↦ refl
-      | false ↦ and_from _ _ (eq-eqb _ _ (length_codes 1 n (marks_in block))) (codes_low 1 n (marks_in block))
-    ]
+read_row n block = grind (arith, nat_tests, length_codes 1 n (marks_in block), codes_low 1 n (marks_in block))
 
 read_rows : (n : ℕ) (bs : List (List ℕ)) → every (sound_place n) (map (read_marks n) bs) ≡ true
 read_rows n [] = refl
-read_rows n (b ∷ bs) = and_from _ _ (read_row n b) (read_rows n bs)
+read_rows n (b ∷ bs) = grind (arith, read_row n b, read_rows n bs)
 
 -- whatever stands in a table, lists of marks are a sound shelf
 pub listed_sound : (n places size : ℕ) (entries : List ℕ) → Sized n places size → Sound (listed n places entries)
 listed_sound n places size entries z = read_sound (read_marks n) n places size entries z (read_rows n (blocks (n + 1) places entries))
 
 pub zero_formed : (n : ℕ) (rest : List ℕ) → well_formed n (0 ∷ rest) ≡ true
-zero_formed n rest = and_from _ _ (le-leb 0 (n + 1) (omega arith)) refl
+zero_formed n rest = grind (arith, nat_tests)

@@ -1,7 +1,6 @@
 -- A shelf over a table: for each place a block of n + 1 entries.
 use Rattle.std.specs.Prelude.{◌≡◌, ℕ, zero, suc, ◌+◌, ◌-◌, ◌*◌, ◌≤◌, Bool, true, cond, ◌&&◌, List, [], ◌∷◌, map, length, take, drop, replicate, Some, None, Option, ◌==◌, nat_le, slice_index, refl}
-use Rattle.std.proofs.Common.{ap, ◌∙◌, arith}
-use Rattle.std.proofs.lemmas.Bool.{and_from, and_parts}
+use Rattle.std.proofs.Common.{◌∙◌, arith}
 use Rattle.std.proofs.lemmas.List.{length-map}
 use Rattle.parts.specs.Lists.{at_place}
 use Rattle.shelf.specs.Meaning.{Shelved, Sound, every, sound_place}
@@ -48,7 +47,7 @@ empty n places = record { n = n; rows = replicate places None }
 
 pub length_blocks : {X : Type 0} (width places : ℕ) (entries : List X) → length (blocks width places entries) ≡ places
 length_blocks width zero entries = refl
-length_blocks width (suc places) entries = ap suc (length_blocks width places (drop width entries))
+length_blocks width (suc places) entries = grind (arith, length_blocks width places (drop width entries))
 
 module _ {X : Type 0} (row : List X → Option (List ℕ)) (n : ℕ) where
   pub length_rows : (places : ℕ) (entries : List X) → length (read_by row n places entries).rows ≡ places
@@ -63,7 +62,7 @@ module _ {X : Type 0} (row : List X → Option (List ℕ)) (n : ℕ) where
   module _ (formed : List X → Bool) (sound : (block : List X) → formed block ≡ true → sound_place n (row block) ≡ true) where
     rows_sound : (bs : List (List X)) → every formed bs ≡ true → every (sound_place n) (map row bs) ≡ true
     rows_sound [] h = refl
-    rows_sound (b ∷ bs) h = let p = and_parts _ _ h in and_from _ _ (sound b p.0) (rows_sound bs p.1)
+    rows_sound (b ∷ bs) h = grind (arith, sound b, rows_sound bs)
 
     pub table_sound : (places size : ℕ) (entries : List X) → Sized n places size → every formed (blocks (n + 1) places entries) ≡ true → Sound (read_by row n places entries)
     table_sound places size entries z h = read_sound places size entries z (rows_sound (blocks (n + 1) places entries) h)

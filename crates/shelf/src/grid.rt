@@ -32,7 +32,7 @@ impl Entry for u8 {
     }
 
     fn marks(block: &[u8]) -> Option<usize> {
-        // A loop over the codes: counted by a chain of iterators, a full grid takes a sixth longer.
+        // Stays a loop: counted by a chain of iterators, a full grid takes a sixth longer. The walk that every shelf has asks for each code by place and part.
         let row = codes(block)?;
         let mut marks = 0;
         for code in row {
@@ -44,7 +44,7 @@ impl Entry for u8 {
     }
 
     fn mark(block: &[u8], k: usize) -> Option<Mark> {
-        // A loop over the codes: through a chain of iterators the answer takes a third longer.
+        // Stays a loop: through a chain of iterators the answer takes a third longer. It stays beside the walk that every shelf has, which asks for each code by place and part.
         let row = codes(block)?;
         let mut left = k;
         for (i, code) in row.iter().enumerate() {

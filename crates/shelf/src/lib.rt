@@ -39,6 +39,7 @@ pub trait Shelf {
     fn marks(&self, place: usize) -> Option<usize>
         ensures { result ≡ marks_of_place (meaning self.now) place }
     {
+        // Stays a loop, as does the one below: a chain over codes that may be missing would carry that beside the count.
         let mut marks = 0;
         for part in 1..=self.n() {
             let code = self.code(place, part).ok()??;

@@ -34,7 +34,7 @@ impl Entry for u16 {
         Some(mark_from(*number))
     }
 
-    // Stays a count of its own: it is what the block's first entry says in the table that a caller hands in.
+    // Stays a count of its own: it places each mark, and in the end it is the block's first entry; a filtered chain would have to be counted once more.
     fn lay(block: &mut [u16], row: &[u8]) {
         let mut head = 1;
         for (i, code) in row.iter().enumerate() {

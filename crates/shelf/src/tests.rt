@@ -22,6 +22,7 @@ const IN_3: Mark = Mark {
 };
 
 // What a new shelf, a write and a clearing promise, as it reads for a grid of codes.
+// Stays beside the same three for lists: one function over any entry would promise what the calls do, and here the promises of each make are shown to follow.
 fn new_grid(n: usize, places: usize, table: Vec<u8>) -> Result<GridShelf, Refused<Vec<u8>>>
     ensures { MatchResult result (λ s. (can_make n places (vec_len table) ≡ true) × (grid_meaning s ≡ empty n places) × (grid_rest s ≡ drop (used n places) table.items)) (λ e. (can_make n places (vec_len table) ≡ false) × (e ≡ record { refusal = NotAShelf; back = table })) }
 {
@@ -44,7 +45,7 @@ fn clear_grid(shelf: &mut GridShelf, place: usize) -> Result<(), Refusal>
     shelf.clear(place)
 }
 
-// The same, as it reads for lists of marks.
+// The same, as it reads for lists of marks. Stays, for the reason above.
 fn new_list(n: usize, places: usize, table: Vec<u16>) -> Result<ListShelf, Refused<Vec<u16>>>
     ensures { MatchResult result (λ s. (can_make n places (vec_len table) ≡ true) × (list_meaning s ≡ empty n places) × (list_rest s ≡ drop (used n places) table.items)) (λ e. (can_make n places (vec_len table) ≡ false) × (e ≡ record { refusal = NotAShelf; back = table })) }
 {
@@ -126,15 +127,20 @@ fn clears_one<S: Shelf>(rt: &impl Abort, shelf: &mut S) {
     assert_eq!(rt; shelf.marks(4), Some(0));
 }
 
+// All of these.
+fn serves<S: Shelf>(rt: &impl Abort, shelf: &mut S) {
+    starts_empty(rt, shelf);
+    keeps_rows(rt, shelf);
+    clears_one(rt, shelf);
+}
+
 #[test]
 fn grid(rt: HostRuntime) -> Result<(), Fail> {
     let table = Vec::from_elem(rt.alloc(), 7u8, 17)?;
     let Ok(mut shelf) = new_grid(3, 4, table) else {
         return Err(Fail::new("no grid"));
     };
-    starts_empty(&rt, &mut shelf);
-    keeps_rows(&rt, &mut shelf);
-    clears_one(&rt, &mut shelf);
+    serves(&rt, &mut shelf);
     assert_eq!(rt; shelf.into_table().last().copied(), Some(7));
     Ok(())
 }
@@ -146,9 +152,7 @@ fn by_walks(rt: HostRuntime) -> Result<(), Fail> {
         return Err(Fail::new("no grid"));
     };
     let mut shelf = Walked { grid };
-    starts_empty(&rt, &mut shelf);
-    keeps_rows(&rt, &mut shelf);
-    clears_one(&rt, &mut shelf);
+    serves(&rt, &mut shelf);
     Ok(())
 }
 
@@ -158,9 +162,7 @@ fn list(rt: HostRuntime) -> Result<(), Fail> {
     let Ok(mut shelf) = new_list(3, 4, table) else {
         return Err(Fail::new("no list"));
     };
-    starts_empty(&rt, &mut shelf);
-    keeps_rows(&rt, &mut shelf);
-    clears_one(&rt, &mut shelf);
+    serves(&rt, &mut shelf);
     assert_eq!(rt; write_list(&mut shelf, 5, &[0, 0, 0]), Err(OUTSIDE));
     assert_eq!(rt; clear_list(&mut shelf, 0), Err(OUTSIDE));
     assert_eq!(rt; shelf.into_table().last().copied(), Some(7));

@@ -120,6 +120,7 @@ fn agrees(heap: Global, case: &Case) -> Result<bool, AllocError> {
 
 // Whether the tables hold just these rules, each ended by 0, and are untouched after them.
 fn holds(marks: &[i16], ends: &[u16], rules: &[i16]) -> bool {
+    // Stays a for: an `all` would carry both slices in its closure.
     let mut marks_left = marks;
     let mut ends_left = ends;
     for number in rules {

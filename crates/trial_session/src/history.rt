@@ -36,6 +36,7 @@ pub struct Exchange {
 }
 
 // A call of a session.
+// Stays a code in a hold: histories also make holds whose code is no side's, to be refused.
 #[derive(Clone, Copy)]
 pub enum Call {
     Hold { part: usize, code: u64 },
@@ -59,7 +60,7 @@ pub enum Answer {
     // one code, or a row of them
     Codes(Vec<u8>),
     // no code, at an empty place
-    // Stays beside Codes: an expected history tells the two apart by their names.
+    // Stays beside Codes: a row of no codes and an empty place are told by two words, and an Option in Codes would be taken apart at each use.
     Empty,
 }
 

@@ -34,7 +34,7 @@ pub fn names(row: &[u8], mark: Mark) -> bool
 }
 
 // Writes the code of a part into a row, if the row has that part.
-// Stays a code: 0 takes a part out of the working rule, and the other two are bytes of the row.
+// Stays a code, 0 where the part is taken out: it is the byte that is written, and an Option of a side would be turned into it here and made from it at each call.
 pub fn write(row: &mut [u8], part: usize, code: u8)
     ensures { row.new ≡ slice_set row.old (part - 1) code }
 {

@@ -42,6 +42,7 @@ pub fn write<B: Book>(book: &B, buffer: &mut [u8]) -> Result<usize, Refusal>
 pub fn count_marks<B: Book>(book: &B) -> Option<usize>
     ensures { result ≡ few (count_marks (B.Book.meaning book.now).rules) }
 {
+    // Stays a for: a try_fold would carry the same number through a closure that is this body.
     let mut left = MOST_TEXT_MARKS;
     for rule in 1..=book.rules() {
         let marks = book.marks(rule).unwrap_or(0);

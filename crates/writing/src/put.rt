@@ -34,7 +34,7 @@ fn put_mark(page: &mut Page, mark: Mark) -> fmt::Result
 }
 
 // Each mark of a rule.
-// Stays page and book side by side: three short functions, of which one alone has a loop over the other.
+// Stays page and book side by side: a struct that lends both would be made for each of three calls, and is no plainer.
 fn put_marks<B: Book>(page: &mut Page, book: &B, rule: usize) -> fmt::Result
     ensures { Puts (marks_text (rule_at (B.Book.meaning book.now).rules rule)) page.old.bytes page.new.bytes result }
 {

@@ -1,6 +1,7 @@
 use Rattle.std.proofs.Common.{◌≡◌, length, Some}
 use Rattle.scan.specs.Scan.{scan_of, state_in, rule_in}
-use Rattle.scan.proofs.Scans.{free, onto, marks_at}
+use Rattle.search.specs.Machine.{marks_at}
+use Rattle.scan.proofs.Scans.{free, onto}
 use Rattle.trail.proofs.Walking.{onward}
 use Rattle.scan.proofs.scan.Given as goal
 
@@ -12,5 +13,5 @@ invariant-rules g l =
 abbrev pub invariant-marks : goal.invariant-marks
 invariant-marks g l =
     let rs = (g.R.RuleList.listed l.list).rules in
-    let ms = marks_at rs l.rule in
+    let ms = marks_at (rule_in rs l.rule) in
     (rule_in rs l.rule ≡ Some ms) × (l.marks ≡ length ms) × (free l.free (state_in l.row (onward l.place ms)) ≡ state_in l.row ms)

@@ -1,23 +1,17 @@
-use Rattle.std.proofs.Common.{◌≡◌, ℕ, false, eqb, get_or, Some, None, Option, refl, sym, ap, ◌∙◌, rules, tests, arith}
-use Rattle.std.specs.Option.{option_map, option_map_or, unwrap_or}
+use Rattle.std.proofs.Common.{◌≡◌, ◌-◌, false, eqb, rules, tests, arith}
+use Rattle.std.specs.Option.{option_map_or}
+use Rattle.std.proofs.lemmas.Bool.Decides.{nat_tests}
+use Rattle.std.proofs.lemmas.Option.{unwrap_or-slice_get}
 use Rattle.parts.specs.Codes.{code_of}
-use Rattle.parts.specs.declared.Side.{Side}
-use Rattle.turns.proofs.Working.{names_code, names_none, code_not_0}
+use Rattle.search.specs.Trail.{names_mark}
 use Rattle.turns.proofs.names.Goals as goal
 
 pub returns-in_default : goal.returns-in_default
-returns-in_default c = sym (names_none _ _ (let k = c.in_default.ensures in omega (arith, k)))
-
--- an absent code is as 0, which is no side's
-absent_is_0 : {X : Type 0} (now : X → ℕ) (s : Side) (o : Option X) → option_map_or (λ x. eqb (now x) (code_of s)) o false ≡ eqb (unwrap_or (option_map now o) 0) (code_of s)
-absent_is_0 now s None = sym (code_not_0 s)
-absent_is_0 now s (Some x) = refl
+unfolding names_mark
+returns-in_default c = grind arith
 
 pub returns : goal.returns
+unfolding names_mark
 returns c =
-    let s = c.args.mark.side in
-    let k = c.in-Some.ensures in
-    let asked : c.is_some_and.result ≡ option_map_or (λ x. eqb x.now (code_of s)) c.get.result false = search (rules, tests) in
-    let there = c.get.ensures.lookup.4 (omega arith) 0 in
-    asked ∙ absent_is_0 (λ x. x.now) s c.get.result ∙ ap (λ x. eqb x (code_of s)) there ∙ ap (λ i. eqb (get_or c.args.row.now i 0) (code_of s)) k.1
-    ∙ sym (names_code c.args.row.now c.args.mark (omega (arith, k.0)))
+    let asked : c.is_some_and.result ≡ option_map_or (λ x. eqb x.now (code_of c.args.mark.side)) c.get.result false = search (rules, tests) in
+    grind (arith, nat_tests, asked, c.get.ensures.lookup.4 (omega arith) 0, unwrap_or-slice_get c.args.row.now (c.args.mark.part - 1) 0)

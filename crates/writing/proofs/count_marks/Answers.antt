@@ -1,4 +1,4 @@
-use Rattle.std.proofs.Common.{◌≡◌, ◌+◌, ◌-◌, drop, unwrap_or, ap, ◌∙◌, arith}
+use Rattle.std.proofs.Common.{◌-◌, arith}
 use Rattle.std.proofs.lemmas.List.{at_drop_all}
 use Rattle.std.proofs.lemmas.Bool.Decides.{nat_tests}
 use Rattle.book.specs.Meaning.{count_marks}
@@ -14,21 +14,12 @@ returns-in_err-left g c =
 pub loop-rule-preserved : goal.loop-rule-preserved
 loop-rule-preserved g c =
     let e = count_from (g.B.Book.meaning c.args.book.now).rules c.loop-rule.rule (omega arith) (omega arith) in
-    let rs = (g.B.Book.meaning c.args.book.now).rules in
-    let k : c.loop-rule.rule + 1 - 1 ≡ c.loop-rule.rule = omega arith in
-    let rest = ap (λ n. count_marks (drop n rs)) k in
-    let marks = c.unwrap_or-marks.ensures ∙ ap (λ o. unwrap_or o 0) c.marks.ensures in
-    (omega arith, omega (arith, c.in_ok-left.ensures), omega (arith, c.in_ok-left.ensures))
+    grind (arith, c.in_ok-left.ensures, c.unwrap_or-marks.ensures, c.marks.ensures)
 
 pub returns : goal.returns
 returns g c =
     let rs = (g.B.Book.meaning c.args.book.now).rules in
     elim c.loop-rule-test.branch [
-      | else-loop-rule-test w ↦
-          let e = at_drop_all count_marks rs (c.loop-rule.rule - 1) (omega arith) in
-          grind (arith, nat_tests)
-      | then-loop-rule-test+in_ok-left+else-rule-rule-end w ↦
-          let e = count_from rs c.loop-rule.rule (omega arith) (omega arith) in
-          let f = at_drop_all count_marks rs c.loop-rule.rule (omega arith) in
-          grind (arith, nat_tests)
+      | else-loop-rule-test w ↦ grind (arith, nat_tests, at_drop_all count_marks rs (c.loop-rule.rule - 1))
+      | then-loop-rule-test+in_ok-left+else-rule-rule-end w ↦ grind (arith, nat_tests, count_from rs c.loop-rule.rule (omega arith) (omega arith), at_drop_all count_marks rs c.loop-rule.rule)
     ]

@@ -1,4 +1,4 @@
-use Rattle.std.proofs.Common.{◌≡◌, ◌+◌, ◌<◌, true, false, [], ◌∷◌, ◌++◌, length, set, nat_abs, Some, refl, sym, ap, ◌∙◌, arith, w32, SFits, rules}
+use Rattle.std.proofs.Common.{◌≡◌, ◌+◌, ◌<◌, false, [], ◌∷◌, ◌++◌, length, nat_abs, Some, refl, sym, ap, ◌∙◌, arith, w32, SFits, rules}
 use Rattle.std.proofs.lemmas.Int.{to_z-of_z}
 use Rattle.std.proofs.lemmas.List.{get_or-replicate}
 use Rattle.book.specs.Tables.{mark_from}
@@ -20,7 +20,7 @@ taken c = taken_field _ _ c.loop-field.invariant.2.0 _ _ _ (sym (c.in_ok-number.
 part_is : (c : After-unsigned_abs) → c.unsigned_abs.result ≡ nat_abs c.in_ok-number.number
 part_is c =
     let f : SFits w32 c.in_ok-number.number = search rules in
-    c.unsigned_abs.ensures.value ∙ ap nat_abs (to_z-of_z w32 c.in_ok-number.number f)
+    grind (arith, c.unsigned_abs.ensures.value, to_z-of_z w32 c.in_ok-number.number f)
 
 room_left : (c : After-unsigned_abs) → c.loop-field.open.place.used + length c.loop-field.invariant.2.0 < limit c.loop-field.open.room.marks
 room_left c = (taken c).1.fits (λ e. c.if-number-eq0.false (zero_bits c.in_ok-number.number e))
@@ -36,16 +36,12 @@ loop-field-preserved c =
     let marks = c.loop-field.invariant.2.0 in
     let z = c.in_ok-number.number in
     let same = c.add.ensures.same in
-    let named = c.add.ensures.named ∙ ap (λ p. set o.named p true) (part_is d) in (
+    let more = rule_mark o.room o.place marks (piece_of c.in-Some.field) (fields_left c.next.new.self) z (taken d).0 (taken d).1 (λ e. c.if-number-eq0.false (zero_bits z e)) in (
       same.0 ∙ c.loop-field.invariant.0,
       same.1 ∙ c.loop-field.invariant.1,
       (
         marks ++ mark_from z ∷ [],
-        shows_more o c.add.new.self marks z (omega (arith, (taken d).1.within)) c.loop-field.invariant.2.1 named c.add.ensures.count,
-        rw (same.0, same.1) (
-            sym (rule_mark o.room o.place marks (piece_of c.in-Some.field) (fields_left c.next.new.self) z (taken d).0 (taken d).1 (λ e. c.if-number-eq0.false (zero_bits z e)))
-            ∙ sym (ap (rule_of o.room o.place marks) c.in-Some.ensures.steps)
-            ∙ c.loop-field.invariant.2.2
-            ),
+        shows_more o c.add.new.self marks z (omega (arith, (taken d).1.within)) c.loop-field.invariant.2.1 (rw (← part_is d) (c.add.ensures.named)) c.add.ensures.count,
+        rw (same.0, same.1, ← more) (sym (ap (rule_of o.room o.place marks) c.in-Some.ensures.steps) ∙ c.loop-field.invariant.2.2),
       ),
     )

@@ -1,13 +1,11 @@
-use Rattle.std.proofs.Common.{◌≡◌, length, take, sym, refl, ap, ◌∙◌, add-one, arith}
+use Rattle.std.proofs.Common.{◌≡◌, length, sym, refl, ap, ◌∙◌, arith}
 use Rattle.std.proofs.lemmas.List.{length-take-le}
 use Rattle.picker.specs.Meaning.{picked}
 use Rattle.search.proofs.Settled.{length_row}
-use Rattle.search.specs.Machine.{asked, idle}
+use Rattle.search.specs.Machine.{idle}
 use Rattle.search.specs.Trail.{row}
 use Rattle.trail.specs.Stacks.{trail_of}
-use Rattle.session.specs.Standing.{verdict_of}
-use Rattle.session.specs.View.{machine_of}
-use Rattle.session.proofs.Machines.{same, picked_open}
+use Rattle.session.proofs.Machines.{picked_open}
 use Rattle.trail.proofs.Stacking.{row_front}
 use Rattle.session.proofs.Session.ask.Given.{Over}
 use Rattle.session.proofs.Session.ask.Goals.{After-pick}
@@ -23,7 +21,7 @@ shown g c =
     let s = c.args.self.now in
     let t = trail_of s.trail in
     let n = (g.B.Book.meaning s.book).n in
-    c.pick.ensures ∙ ap (picked (g.P.Picker.meaning s.picker)) (ap (take c.n-n.result) c.row.ensures ∙ ap (λ k. take k (row 120 t)) c.n-n.ensures ∙ row_front n t (g.B.Book.sound s.book).few)
+    rw (c.pick.ensures, c.row.ensures, c.n-n.ensures, row_front n t (g.B.Book.sound s.book).few)
 
 pub settle-requires : goal.settle-requires
 settle-requires g c =
@@ -33,15 +31,11 @@ settle-requires g c =
 
 pub returns-in-Some : goal.returns-in-Some
 returns-in-Some g c =
-    let m = machine_of g.B.Book.meaning g.S.Shelf.meaning c.args.self.now in
-    record { after = c.settle.ensures.after ∙ ap (asked m) (sym c.in-Some.is ∙ shown g (goal.at.returns-in-Some g c).After-pick); kept = c.settle.ensures.kept }
+    let p = shown g (goal.at.returns-in-Some g c).After-pick in
+    record { after = grind (arith, c.settle.ensures.after, c.in-Some.is); kept = c.settle.ensures.kept }
 
 pub returns-in-None : goal.returns-in-None
 unfolding idle
 returns-in-None g c =
-    let s = c.args.self.now in
-    let m = machine_of g.B.Book.meaning g.S.Shelf.meaning s in
-    record {
-      after = same _ (idle m) refl refl refl refl (add-one s.steps) refl (ap (verdict_of (g.B.Book.meaning s.book).n) c.requires.0) ∙ ap (asked m) (sym c.in-None.is ∙ shown g (goal.at.returns-in-None g c).After-pick);
-      kept = (refl, refl, refl);
-    }
+    let p = shown g (goal.at.returns-in-None g c).After-pick in
+    record { after = grind (arith, c.in-None.is, c.requires.0); kept = (refl, refl, refl) }

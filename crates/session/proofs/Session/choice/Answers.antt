@@ -1,15 +1,14 @@
-use Rattle.std.proofs.Common.{◌≡◌, ℕ, ◌≤◌, length, take, sym, ap, ◌∙◌, arith, rules}
-use Rattle.std.proofs.lemmas.List.{length-take-le}
+use Rattle.std.proofs.Common.{◌≡◌, ℕ, ◌≤◌, length, take, sym, rules, refl}
 use Rattle.search.specs.Trail.{Trail, Row, row}
 use Rattle.search.proofs.Settled.{length_row}
 use Rattle.trail.specs.Stacks.{trail_of}
-use Rattle.trail.proofs.Stacking.{row_front}
+use Rattle.session.proofs.Looking.{row_asked}
 use Rattle.session.proofs.Session.choice.Goals.{in-Fits, in_default}
 use Rattle.session.proofs.Session.choice.Goals as goal
 
 -- the first n of 120 codes are n
 front_long : (n : ℕ) (r : Row) (t : Trail) → n ≤ 120 → r ≡ row 120 t → length (take n r) ≡ n
-front_long n r t l e = length-take-le n r (omega (arith, l, ap length e, length_row 120 t))
+front_long n r t l e = rw (row_asked n n t r l refl e) (length_row n t)
 
 pub slice_bounds-codes-end : goal.slice_bounds-codes-end
 slice_bounds-codes-end g c =
@@ -25,7 +24,7 @@ pub returns-clause-after : goal.returns-clause-after
 returns-clause-after g c = elim c.match-self.branch [
   | in-Fits w ↦
       let few = (g.B.Book.sound c.args.self.now.book).few in
-      let front = ap (take c.n-n.result) w.row.ensures ∙ ap (λ k. take k (row 120 (trail_of c.args.self.now.trail))) c.n-n.ensures ∙ row_front (g.B.Book.meaning c.args.self.now.book).n (trail_of c.args.self.now.trail) few in
+      let front = row_asked _ _ (trail_of c.args.self.now.trail) _ few c.n-n.ensures w.row.ensures in
       search rules
   | in_default w ↦ search rules
 ]

@@ -1,17 +1,12 @@
-use Rattle.std.proofs.Common.{take, refl, ap, ◌∙◌, add-one}
-use Rattle.search.specs.Machine.{none_fits, turned}
+use Rattle.std.proofs.Common.{refl, arith}
+use Rattle.search.specs.Machine.{turned}
 use Rattle.holds.specs.Holding.{holds_of}
-use Rattle.session.proofs.Machines.{same, named_front}
+use Rattle.session.proofs.Machines.{named_front}
 use Rattle.session.proofs.Session.end.Goals as goal
 
 pub returns : goal.returns
 unfolding turned
 returns g c =
     let s = c.args.self.now in
-    let n = (g.B.Book.meaning s.book).n in
-    let hs = holds_of s.holds in
-    record {
-      after = same _ _ refl c.requires.1 refl refl (add-one s.steps) (add-one s.turns)
-          (ap none_fits (ap (take n) (c.name_into.ensures) ∙ named_front n 120 c.args.work.now hs (g.B.Book.sound s.book).few));
-      kept = (refl, refl, refl);
-    }
+    let named = named_front (g.B.Book.meaning s.book).n 120 c.args.work.now (holds_of s.holds) (g.B.Book.sound s.book).few in
+    record { after = grind (arith, c.requires.1, c.name_into.ensures); kept = (refl, refl, refl) }

@@ -1,19 +1,16 @@
 use Rattle.std.proofs.Common.{◌≡◌, ◌+◌, sym, ◌∙◌, arith}
 use Rattle.shelf.specs.Meaning.{mark_of_place}
-use Rattle.shelf.proofs.Walks.{Told, sought, told, told_side, has_side, no_side, seek_none, seek_pass, seek_all}
+use Rattle.shelf.proofs.Walks.{sought, told, seek_none, seek_pass, seek_all}
 use Rattle.shelf.proofs.Shelf.mark.Goals as goal
-use Rattle.shelf.proofs.Shelf.mark.Goals.{In_ok-code, Joined-try_from, in-Ok+else-left-eq1, in_default}
-
-there : (g : _) (c : In_ok-code g) → Told (g.Self.Shelf.meaning c.args.self.now) c.args.place c.loop-part.part c.in_ok-code.code
-there g c = told (g.Self.Shelf.meaning c.args.self.now) (g.Self.Shelf.sound c.args.self.now) c.args.place c.loop-part.part c.in_ok-code.code (omega arith) (omega arith) c.code.ensures c.in_ok-ok.ensures.value c.in_ok-code.was
+use Rattle.shelf.proofs.Shelf.mark.Goals.{Joined-try_from, in-Ok+else-left-eq1, in_default}
 
 -- a part passed
 next : (g : _) (c : Joined-try_from g) → sought (g.Self.Shelf.meaning c.args.self.now) c.args.place (c.loop-part.part + 1) c.match-try_from.left ≡ mark_of_place (g.Self.Shelf.meaning c.args.self.now) c.args.place c.args.k
 next g c =
     let t = told (g.Self.Shelf.meaning c.args.self.now) (g.Self.Shelf.sound c.args.self.now) c.args.place c.loop-part.part c.in_ok-code.code (omega arith) (omega arith) c.code.ensures c.in_ok-ok.ensures.value c.in_ok-code.was in
     elim c.match-try_from.branch [
-      | in-Ok+else-left-eq1 w ↦ seek_pass t c.loop-part.left w.saturating_sub-left.result w.in-Ok.side w.left-is w.saturating_sub-left.ensures (has_side _ (told_side c.in_ok-code.code w.in-Ok.ensures c.from.ensures)) w.if-left-eq1.false ∙ c.loop-part.invariant
-      | in_default w ↦ seek_none t c.loop-part.left w.left-is (no_side _ (λ side e. w.in_default.not-Ok side (sym (told_side c.in_ok-code.code c.try_from.ensures c.from.ensures) ∙ e))) ∙ c.loop-part.invariant
+      | in-Ok+else-left-eq1 w ↦ grind (arith, seek_pass t c.loop-part.left w.in-Ok.side, w.in-Ok.ensures, c.from.ensures, w.saturating_sub-left.ensures, w.left-is, w.if-left-eq1.false, c.loop-part.invariant)
+      | in_default w ↦ grind (arith, seek_none t c.loop-part.left, w.in_default.not-Ok, c.try_from.ensures, c.from.ensures, w.left-is, c.loop-part.invariant)
     ]
 
 pub loop-part-preserved : goal.loop-part-preserved

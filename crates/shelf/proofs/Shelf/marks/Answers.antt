@@ -1,6 +1,6 @@
-use Rattle.std.proofs.Common.{◌≡◌, ◌+◌, ◌≤◌, true, false, is_some, is_ok, sym, ap, ◌∙◌, arith}
+use Rattle.std.proofs.Common.{◌≡◌, ◌+◌, ◌≤◌, true, false, is_some, sym, ap, ◌∙◌, arith}
 use Rattle.shelf.specs.Meaning.{marks_of_place}
-use Rattle.shelf.proofs.Walks.{Told, counted, told, told_side, is_side, count_more, count_all}
+use Rattle.shelf.proofs.Walks.{Told, counted, told, count_more, count_all}
 use Rattle.shelf.proofs.Shelf.marks.Goals as goal
 use Rattle.shelf.proofs.Shelf.marks.Goals.{Joined-is_ok, then-is_ok, else-is_ok}
 
@@ -11,10 +11,9 @@ module _ (g : _) (c : Joined-is_ok g) where
 
   more : (counted (g.Self.Shelf.meaning c.args.self.now) c.args.place (c.loop-part.part + 1) c.if-is_ok.marks ≡ marks_of_place (g.Self.Shelf.meaning c.args.self.now) c.args.place) × (c.if-is_ok.marks ≤ c.loop-part.part)
   more =
-      let some = sym (is_side _) ∙ ap is_ok (told_side c.in_ok-code.code c.try_from.ensures c.from.ensures) ∙ sym c.is_ok.ensures.value in
       elim c.if-is_ok.branch [
-        | then-is_ok w ↦ (count_more there _ _ true (some ∙ w.if-is_ok.true) w.marks-is ∙ c.loop-part.invariant.0, omega (arith, w.marks-is))
-        | else-is_ok w ↦ (count_more there _ _ false (some ∙ w.if-is_ok.false) (omega (arith, w.marks-is)) ∙ c.loop-part.invariant.0, omega (arith, w.marks-is))
+        | then-is_ok w ↦ (grind (arith, count_more there c.loop-part.marks c.if-is_ok.marks true, c.try_from.ensures, c.from.ensures, c.is_ok.ensures.value, w.if-is_ok.true, w.marks-is, c.loop-part.invariant.0), omega (arith, w.marks-is))
+        | else-is_ok w ↦ (grind (arith, count_more there c.loop-part.marks c.if-is_ok.marks false, c.try_from.ensures, c.from.ensures, c.is_ok.ensures.value, w.if-is_ok.false, w.marks-is, c.loop-part.invariant.0), omega (arith, w.marks-is))
       ]
 
 pub loop-part-preserved : goal.loop-part-preserved

@@ -9,5 +9,5 @@ use Rattle.trail.proofs.Trail.needed.Goals as goal
 
 pub returns : goal.returns
 returns c =
-    any_from_yields_List (λ (e : Entry). is_place c.args.place e.kind) _ _ c.any.result c.any.ensures.ran (YieldsList-from_rev_slice c.args.self.now.entries.items cc) (λ x b q k. (search (rules, tests), by_place c.args.place x.now.kind b (search (rules, tests))))
+    any_from_yields_List (λ (e : Entry). is_place c.args.place e.kind) _ _ c.any.result c.any.ensures.ran (YieldsList-from_rev_slice c.args.self.now.entries.items cc) (λ x b q k. search (rules, tests, by_place))
     ∙ needed_any (trail_of c.args.self.now) c.args.place

@@ -1,8 +1,5 @@
-use Rattle.std.proofs.Common.{◌+◌, Err, sym, ap, ◌∙◌, arith}
+use Rattle.std.proofs.Common.{◌∙◌, arith}
 use Rattle.grammar.specs.declared.Room.{Room}
-use Rattle.grammar.specs.Reading.{fault, rules_of}
-use Rattle.parts.specs.declared.refusals.Refusal.TheVariants.{RuleCount}
-use Rattle.reading.specs.Checks.{passed}
 use Rattle.reading.specs.Pieces.{piece_of, all_lines, lines_left, text_end}
 use Rattle.reading.proofs.Counting.{some_field, head_counts, line_over}
 use Rattle.reading.proofs.Runs.{first_place}
@@ -19,7 +16,4 @@ returns-in-Some c =
     let e = c.in-Some.ensures.steps.0 in
     let (f, fs, is) = some_field l (head_counts (all_lines after) l ls e) in
     let place = first_place c.fields.result.at c.fields.result.rest.now c.fields.result.begun f fs (c.fields.ensures ∙ is) in
-    ap Err (c.fault.ensures ∙ ap (λ k. fault RuleCount (c.in-Some.line.at + k) (h.size.m + 1)) (sym place))
-    ∙ sym (ap passed (line_over room (text_end h.rules) h.size.m h.size.m used l ls f fs is (omega arith)))
-    ∙ sym (ap (λ ps. passed (rules_of room (text_end h.rules) h.size.m h.size.m used ps)) e)
-    ∙ passes
+    grind (arith, line_over room (text_end h.rules) h.size.m h.size.m used l ls f fs is, c.fault.ensures, passes)

@@ -1,10 +1,8 @@
 use Rattle.std.proofs.Common.{◌≡◌, suc, ◌+◌, ◌<◌, ◌++◌, map, length, take, drop, set, sym, ap, ◌∙◌, arith}
 use Rattle.std.proofs.lemmas.List.{take_all, length_push}
 use Rattle.parts.specs.declared.Mark.{Mark}
-use Rattle.parts.specs.Codes.{side_of}
 use Rattle.parts.specs.Rows.{row_marks}
-use Rattle.shelf.specs.Listed.{number_of, list_block, well_formed, read_marks}
-use Rattle.shelf.proofs.Walks.{has_side, no_side}
+use Rattle.shelf.specs.Listed.{number_of, list_block}
 use Rattle.shelf.proofs.Blocks.{overlay, overlay_head}
 use Rattle.shelf.proofs.Marks.{marks_more_none, marks_more_some}
 use Rattle.shelf.proofs.Listings.{mark_laid, new_formed, new_row}
@@ -21,7 +19,7 @@ loop-i-preserved c =
     elim c.match-try_from.branch [
       | in-Ok w ↦
           let m : Mark = record { part = i + 1; side = w.in-Ok.side } in
-          let e = marks_more_some row i l w.in-Ok.side (ap side_of (sym c.from.ensures) ∙ has_side _ (sym w.in-Ok.ensures)) in (
+          let e = marks_more_some row i l w.in-Ok.side (grind (arith, c.from.ensures, w.in-Ok.ensures)) in (
             w.head-is ∙ omega (arith, c.loop-i.invariant.0, ap length e, length_push ms m),
             omega (arith, w.head-is),
             w.block-is
@@ -29,21 +27,17 @@ loop-i-preserved c =
                 ∙ ap (λ ns. overlay xs 1 (map number_of ns)) (sym e),
           )
       | in_default w ↦
-          let e = sym (marks_more_none row i l (ap side_of (sym c.from.ensures) ∙ no_side _ (λ side e. w.in_default.not-Ok side (c.try_from.ensures ∙ e)))) in
-          (w.head-is ∙ c.loop-i.invariant.0 ∙ ap (λ ns. suc (length ns)) e, omega (arith, w.head-is), w.block-is ∙ c.loop-i.invariant.2 ∙ ap (λ ns. overlay xs 1 (map number_of ns)) e)
+          let e = marks_more_none row i l (grind (arith, c.from.ensures, c.try_from.ensures, w.in_default.not-Ok)) in
+          (grind (arith, w.head-is), omega (arith, w.head-is), grind (arith, w.block-is))
     ]
 
 laid : (c : After-loop-i) → set c.loop-i.block 0 c.loop-i.head ≡ list_block c.args.row.now ++ drop (0 + length (list_block c.args.row.now)) c.args.block.now
 laid c =
-    let xs = c.args.block.now in
-    let row = c.args.row.now in
-    let e = take_all c.loop-i.i row (omega arith) in
-    ap (λ r. set r 0 c.loop-i.head) (c.loop-i.invariant.2 ∙ ap (λ r. overlay xs 1 (map number_of (row_marks r))) e)
-    ∙ ap (set (overlay xs 1 (map number_of (row_marks row))) 0) (c.loop-i.invariant.0 ∙ ap (λ r. suc (length (row_marks r))) e)
-    ∙ overlay_head xs 0 (suc (length (row_marks row))) (map number_of (row_marks row)) (omega (arith, c.requires.long))
+    let ms = row_marks c.args.row.now in
+    rw (c.loop-i.invariant.2, c.loop-i.invariant.0, take_all c.loop-i.i c.args.row.now (omega arith)) (overlay_head c.args.block.now 0 (suc (length ms)) (map number_of ms) (omega (arith, c.requires.long)))
 
 pub returns : goal.returns
 returns c =
     let row = c.args.row.now in
     let e = laid (goal.at.returns c).After-loop-i in
-    record { row = ap (read_marks (length row)) e ∙ new_row (length row) row _ c.requires.row; kept = ap (well_formed (length row)) e ∙ new_formed (length row) row _ c.requires.row }
+    record { row = rw e (new_row (length row) row _ c.requires.row); kept = rw e (new_formed (length row) row _ c.requires.row) }

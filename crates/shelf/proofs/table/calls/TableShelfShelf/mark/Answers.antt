@@ -1,18 +1,9 @@
-use Rattle.std.proofs.Common.{sym, ◌∙◌}
-use Rattle.shelf.specs.Views.{table_meaning}
-use Rattle.shelf.proofs.Rows.{done_told, refused_told}
-use Rattle.shelf.proofs.Walks.{no_mark}
+use Rattle.std.proofs.Common.{arith}
 use Rattle.shelf.proofs.Blocks.{no_row, mark_told}
 use Rattle.shelf.proofs.table.calls.TableShelfShelf.mark.Goals as goal
 
 pub returns-in_err-ok : goal.returns-in_err-ok
-returns-in_err-ok g c =
-    let s = c.args.self.now in
-    let h = refused_told _ _ c.block.result c.block.ensures c.in_err-ok.ensures.value in
-    c.from_residual.ensures ∙ no_mark (table_meaning s) c.args.place c.args.k (no_row g.E.Entry.row_in s.n s.places s.table.items c.args.place h.1.1)
+returns-in_err-ok g c = let s = c.args.self.now in grind (arith, no_row g.E.Entry.row_in s.n s.places s.table.items c.args.place, c.block.ensures, c.in_err-ok.ensures.value, c.from_residual.ensures)
 
 pub returns : goal.returns
-returns g c =
-    let s = c.args.self.now in
-    let is = done_told _ _ c.block.result c.block.ensures c.in_ok-ok.ensures.value in
-    c.mark.ensures ∙ sym (mark_told g.E.Entry.row_in s.n s.places s.table.items c.args.place g.E.Entry.formed c.in_ok-ok.field-0.now is c.args.k)
+returns g c = let s = c.args.self.now in grind (arith, mark_told g.E.Entry.row_in s.n s.places s.table.items c.args.place g.E.Entry.formed c.in_ok-ok.field-0.now, c.block.ensures, c.in_ok-ok.ensures.value, c.mark.ensures)
