@@ -1,0 +1,2 @@
+pub mod Promise
+pub mod Printing

@@ -1,0 +1,132 @@
+-- Which lines say a part or a hold, and which.
+use Rattle.std.proofs.Common.{◌≡◌, ℕ, ◌+◌, ◌-◌, ◌<◌, ◌≤◌, true, ◌⊎◌, List, [], ◌∷◌, ◌++◌, length, Some, None, codes, decimal, Option, refl, ap, inl, inr, arith, rules, append-nil, append_assoc, length-append}
+use Rattle.std.specs.List.{list_all, AllByRecursion}
+use Rattle.std.proofs.lemmas.Grind.{common_steps}
+use Rattle.std.proofs.lemmas.Slice.Eq.{bytes_eq-Decides}
+use Rattle.std.proofs.lemmas.Bool.Decides.{nat_tests}
+use Rattle.parts.specs.declared.Mark.{Mark}
+use Rattle.parts.specs.declared.Side.{Side}
+use Rattle.parts.specs.declared.Side.TheVariants.{In, Out}
+use Rattle.grammar.specs.Numbers.{number}
+use Rattle.grammar.specs.Format.{Inline}
+use Rattle.grammar.proofs.Numbers.{number_decimal, decimal_number, decimal_digits}
+use Rattle.sheet.specs.Reading.{Line, is_name, name_byte, side_of_word, cut, part_by, hold_by, line_by, line_of}
+use Rattle.sheet.specs.Reading.Line.{part, hold}
+use Rattle.parts.specs.Codes.{side_text}
+use Rattle.sheet.specs.Format.{part_line, hold_line}
+use Rattle.sheet.proofs.Tabs.{Plain, cut_at, cut_is}
+
+-- three fields and the tabs that part them
+abbrev pub tabbed : List ℕ → List ℕ → List ℕ → List ℕ
+tabbed a b c = a ++ (9 ∷ b ++ (9 ∷ c))
+
+-- a line of the sheet, without its line feed
+abbrev pub part_words : ℕ → List ℕ → List ℕ
+part_words k name = tabbed (codes "part") (decimal k) name
+
+abbrev pub hold_words : Mark → List ℕ
+hold_words m = tabbed (codes "hold") (decimal m.part) (side_text m.side)
+
+-- the bytes from `at` on are the line that says this
+abbrev pub Says : ℕ → List ℕ → Line → Type 0
+Says at bytes (part k name) = (bytes ≡ part_words k name.bytes) × (name.at ≡ at + (length (decimal k) + 6)) × (is_name name.bytes ≡ true) × (k < 100000)
+Says at bytes (hold m) = (bytes ≡ hold_words m) × (m.part < 100000)
+
+-- numbers, names and sides have no tab and no line feed
+digits_plain : (bs : List ℕ) → AllByRecursion (λ b. (48 ≤ b) × (b ≤ 57)) bs → Plain bs
+digits_plain [] h = tt
+digits_plain (b ∷ bs) h = (omega (arith, h.0), digits_plain bs h.1)
+
+name_plain : (bs : List ℕ) → list_all name_byte bs ≡ true → Plain bs
+name_plain [] h = tt
+name_plain (b ∷ bs) h = (grind (arith, nat_tests), name_plain bs (grind arith))
+
+side_plain : (s : Side) → Plain (side_text s)
+side_plain In = search rules
+side_plain Out = search rules
+
+-- a line is read by its three fields
+line_three : (at : ℕ) (a b c : List ℕ) → Plain a → Plain b → line_of at (tabbed a b c) ≡ line_by at (length (tabbed a b c)) a (Some (b, c))
+line_three at a b c ha hb = rw (cut_at a (b ++ 9 ∷ c) ha, line_of, cut_at b c hb)
+
+-- the word of a side tells it, and no other word does
+word_side : (s : Side) → side_of_word (side_text s) ≡ Some s
+word_side In = refl
+word_side Out = refl
+
+side_word : (w : List ℕ) (s : Side) → side_of_word w ≡ Some s → w ≡ side_text s
+side_word w s h = grind (arith, bytes_eq-Decides w (codes "in"), bytes_eq-Decides w (codes "out"))
+
+-- such a line says it
+pub says_line : (at : ℕ) (bytes : List ℕ) (l : Line) → Says at bytes l → line_of at bytes ≡ Some l
+says_line at bytes (part k name) h =
+    let three = line_three at (codes "part") (decimal k) name.bytes (search rules) (digits_plain (decimal k) (decimal_digits k h.3)) in
+    grind (arith, common_steps, nat_tests, number_decimal k h.3)
+says_line at bytes (hold m) h =
+    let three = line_three at (codes "hold") (decimal m.part) (side_text m.side) (search rules) (digits_plain (decimal m.part) (decimal_digits m.part h.1)) in
+    grind (arith, common_steps, nat_tests, number_decimal m.part h.1, word_side m.side)
+
+-- what a part's and a hold's fields are
+by_part : (at len : ℕ) (name : List ℕ) (o : Option ℕ) (l : Line) → part_by at len o name ≡ Some l
+    → (k : ℕ) × (o ≡ Some k) × (is_name name ≡ true) × (l ≡ part k (record { at = at + (len - length name); bytes = name }))
+by_part at len name o l h = grind arith
+
+by_hold : (o : Option ℕ) (s : Option Side) (l : Line) → hold_by o s ≡ Some l → (k : ℕ) × (side : Side) × (o ≡ Some k) × (s ≡ Some side) × (l ≡ hold (record { part = k; side = side }))
+by_hold o s l h = grind arith
+
+-- a line that says something is cut twice, and its first field is one of two words
+by_cut : (at : ℕ) (bytes : List ℕ) (o : Option (List ℕ × List ℕ)) (l : Line) → elim o [ None ↦ None | Some p ↦ line_by at (length bytes) p.0 (cut p.1) ] ≡ Some l
+    → (p : List ℕ × List ℕ) × (o ≡ Some p) × (line_by at (length bytes) p.0 (cut p.1) ≡ Some l)
+by_cut at bytes o l h = grind arith
+
+by_word : (at len : ℕ) (word : List ℕ) (o : Option (List ℕ × List ℕ)) (l : Line) → line_by at len word o ≡ Some l
+    → (q : List ℕ × List ℕ) × (o ≡ Some q) × (((word ≡ codes "part") × (part_by at len (number q.0) q.1 ≡ Some l)) ⊎ ((word ≡ codes "hold") × (hold_by (number q.0) (side_of_word q.1) ≡ Some l)))
+by_word at len word o l h = grind (arith, bytes_eq-Decides word (codes "part"), bytes_eq-Decides word (codes "hold"))
+
+-- and no other does
+pub line_says : (at : ℕ) (bytes : List ℕ) (l : Line) → line_of at bytes ≡ Some l → Says at bytes l
+line_says at bytes l h =
+    let (p, cut_p, line) = by_cut at bytes (cut bytes) l h in
+    let (q, cut_q, said) = by_word at (length bytes) p.0 (cut p.1) l line in
+    let e = cut_is bytes p cut_p in
+    let f = cut_is p.1 q cut_q in
+    elim said [
+      | inl g ↦
+          let (k, number_k, name, is) = by_part at (length bytes) q.1 (number q.0) l g.1 in
+          let (digits, small) = decimal_number q.0 k number_k in
+          let words : bytes ≡ part_words k q.1 = cc in
+          rw is (words, omega (arith, simp length-append at (ap length words)), name, small)
+      | inr g ↦
+          let (k, side, number_k, side_k, is) = by_hold (number q.0) (side_of_word q.1) l g.1 in
+          let (digits, small) = decimal_number q.0 k number_k in
+          let word = side_word q.1 side side_k in
+          rw is (cc, small)
+    ]
+
+-- none has a line feed
+plain_inline : (a rest : List ℕ) → Plain a → AllByRecursion Inline rest → AllByRecursion Inline (a ++ rest)
+plain_inline [] rest h i = i
+plain_inline (b ∷ a) rest h i = (λ e. omega (arith, h.0), plain_inline a rest h.1 i)
+
+tabbed_inline : (a b c : List ℕ) → Plain a → Plain b → Plain c → AllByRecursion Inline (tabbed a b c)
+tabbed_inline a b c i j k = plain_inline a _ i (λ e. omega arith, plain_inline b _ j (λ e. omega arith, rw (← append-nil c) (plain_inline c [] k tt)))
+
+pub says_inline : (at : ℕ) (bytes : List ℕ) (l : Line) → Says at bytes l → AllByRecursion Inline bytes
+says_inline at bytes (part k name) h =
+    let letters : list_all name_byte name.bytes ≡ true = grind arith in
+    rw h.0 (tabbed_inline (codes "part") (decimal k) name.bytes (search rules) (digits_plain (decimal k) (decimal_digits k h.3)) (name_plain name.bytes letters))
+says_inline at bytes (hold m) h =
+    rw h.0 (tabbed_inline (codes "hold") (decimal m.part) (side_text m.side) (search rules) (digits_plain (decimal m.part) (decimal_digits m.part h.1)) (side_plain m.side))
+
+-- a line and its line feed
+pub part_ends : (k : ℕ) (name rest : List ℕ) → part_line k name ++ rest ≡ part_words k name ++ 10 ∷ rest
+part_ends k name rest = simp append_assoc
+
+pub hold_ends : (m : Mark) (rest : List ℕ) → hold_line m ++ rest ≡ hold_words m ++ 10 ∷ rest
+hold_ends m rest = simp append_assoc
+
+pub part_length : (k : ℕ) (name : List ℕ) → length (part_line k name) ≡ length (part_words k name) + 1
+part_length k name = simp length-append (omega arith)
+
+pub hold_length : (m : Mark) → length (hold_line m) ≡ length (hold_words m) + 1
+hold_length m = simp length-append (omega arith)

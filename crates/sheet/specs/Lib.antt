@@ -1,0 +1,4 @@
+pub mod Reading
+pub mod Format
+pub mod Law
+pub mod Views

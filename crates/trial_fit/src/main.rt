@@ -1,0 +1,55 @@
+// trial_fit: searches each bench of cases.tsv, which an independent program told, and tells where the printed lines differ.
+#![tactic(auto)]
+
+use anyhow::{Context, bail};
+use reading::loading::Unloaded;
+use repair::Repair;
+use std::alloc::Global;
+use std::fs;
+
+// A book, a sheet, and the lines that an independent program printed of them.
+#[derive(Drop)]
+struct Case {
+    book: Vec<u8>,
+    sheet: Vec<u8>,
+    printed: Vec<u8>,
+}
+
+fn main(rt: HostRuntime) -> anyhow::Result<()> {
+    run(&rt)
+}
+
+fn run(rt: &HostRuntime) -> anyhow::Result<()> {
+    let packed = fs::read_to_string(rt, "cases.tsv")?;
+    let mut wrong = 0u32;
+    for line in packed.lines() {
+        let case = parse_case(rt.alloc(), line)?;
+        let printed = printed(rt.alloc(), &case)?;
+        if printed.as_bytes() != case.printed.as_slice() {
+            wrong = wrong.saturating_add(1);
+            println!(rt; "disagrees\t{line}")?;
+        }
+    }
+    println!(rt; "{} benches, {wrong} disagree", packed.lines().count())?;
+    Ok(())
+}
+
+// A case as its line has it: name, book, sheet and printed lines, each in hexadecimal.
+fn parse_case(heap: Global, line: &str) -> anyhow::Result<Case> {
+    let mut fields = line.split('\t');
+    let _name = fields.next().context("no name")?;
+    Ok(Case {
+        book: hex::decode(heap, fields.next().context("no book")?)?,
+        sheet: hex::decode(heap, fields.next().context("no sheet")?)?,
+        printed: hex::decode(heap, fields.next().context("nothing printed")?)?,
+    })
+}
+
+// What is printed of a case.
+fn printed(heap: Global, case: &Case) -> anyhow::Result<String> {
+    match Repair::of(heap, &case.book, &case.sheet) {
+        Ok(repair) => Ok(format!(in heap; "{repair}")?),
+        Err(Unloaded::Faulty(fault)) => Ok(format!(in heap; "refused\t{fault}\n")?),
+        Err(Unloaded::NoMemory) => bail!("out of memory"),
+    }
+}
