@@ -1,11 +1,12 @@
 -- Under the row of a trail, a scan finds what the search looks for under the trail.
 use Rattle.std.proofs.Common.{◌≡◌, ℕ, suc, ◌+◌, ◌-◌, true, List, [], ◌∷◌, map, length, get_or, Some, None, Option, refl, arith}
 use Rattle.std.proofs.lemmas.Bool.Decides.{nat_tests}
+use Rattle.std.specs.Option.{option_map}
 use Rattle.book.specs.Meaning.{Rule, sound_rule}
 use Rattle.search.specs.declared.Reason.{Reason}
 use Rattle.search.specs.Trail.{Trail, State, from, row, state}
 use Rattle.search.specs.Machine.{first, if_broken, if_pressing, Press}
-use Rattle.scan.specs.Scan.{truth_in, state_in, before, scan_of}
+use Rattle.scan.specs.Scan.{truth_in, state_in, before, scan_of, broken_in}
 use Rattle.scan.specs.Scan as scans
 use Rattle.scan.specs.declared.Found.{Found}
 use Rattle.scan.specs.declared.Found.TheVariants.{Broken, Pressing, Quiet}
@@ -19,9 +20,7 @@ state_agrees t (m ∷ r) s = grind (arith, nat_tests, row_at 120 t (m.part - 1),
 
 -- what a scan found, as the reasons that the search looks for
 abbrev pub broken_of : (ℕ → Reason) → Found → Option Reason
-broken_of by (Broken i) = Some (by i)
-broken_of by (Pressing i m) = None
-broken_of by Quiet = None
+broken_of by f = option_map by (broken_in f)
 
 abbrev pub pressing_of : (ℕ → Reason) → Found → Option Press
 pressing_of by (Broken i) = None

@@ -54,3 +54,9 @@ before i quiet f = f
 abbrev pub scan_of : List ℕ → ℕ → List (Option Rule) → Found
 scan_of row i [] = Quiet
 scan_of row i (o ∷ os) = before i (state_of row o) (scan_of row (i + 1) os)
+
+-- the broken rule that a scan found
+abbrev pub broken_in : Found → Option ℕ
+broken_in (Broken i) = Some i
+broken_in (Pressing i m) = None
+broken_in Quiet = None

@@ -1,10 +1,10 @@
 // Finding the first broken rule, else the first pressing one.
 #![tactic(auto)]
 
-ghost use Rattle.std.specs.Prelude.{◌≡◌, ◌≤◌, length};
+ghost use Rattle.std.specs.Prelude.{◌≡◌, ◌+◌, ◌≤◌, length, drop};
 ghost use Rattle.search.specs.Trail.{row as row_of};
 ghost use Rattle.trail.specs.Stacks.{trail_of};
-ghost use Rattle.scan.specs.Scan.{Listed, Within, marks_in, mark_in, scan_of};
+ghost use Rattle.scan.specs.Scan.{Listed, Within, marks_in, mark_in, scan_of, broken_in};
 
 pub mod lists;
 
@@ -47,35 +47,73 @@ pub fn scan_under<R: FewParts>(list: &R, trail: &Trail) -> Found
     scan(list, trail.row())
 }
 
+// The first broken rule of the list under a trail; nothing where there is none.
+pub fn broken_under<R: FewParts>(list: &R, trail: &Trail) -> Option<usize>
+    ensures { result ≡ broken_in (scan_of (row_of 120 (trail_of trail.now)) 1 (R.RuleList.listed list.now).rules) }
+{
+    first_broken(list, trail.row(), 0)
+}
+
 // The first broken rule of the list under a settled row, else the first pressing one.
 pub(crate) fn scan<R: RuleList>(list: &R, row: &[u8]) -> Found
     requires { (R.RuleList.listed list.now).n ≤ length row.now }
     ensures { result ≡ scan_of row.now 1 (R.RuleList.listed list.now).rules }
 {
-    let mut pressing = None;
-    'rules: for rule in 1..=list.count() {
+    'rules: for before in 0..list.count() {
+        let rule = before + 1;
         let Some(marks) = list.marks(rule) else {
             continue 'rules;
         };
         let mut free = None;
-        'marks: for place in 1..=marks {
-            let Some(mark) = list.mark(rule, place) else {
-                continue 'marks;
+        'marks: for passed in 0..marks {
+            // There is one: as many were counted.
+            let Some(mark) = list.mark(rule, passed + 1) else {
+                continue 'rules;
             };
             let code = row[mark.part - 1];
-            if code == 0 {
-                if free.is_some() {
-                    continue 'rules;
-                }
-                free = Some(mark);
-            } else if code == u8::from(mark.side) {
+            if code == u8::from(mark.side) {
                 continue 'rules;
             }
+            if code != 0 {
+                continue 'marks;
+            }
+            if free.is_some() {
+                continue 'rules;
+            }
+            free = Some(mark);
         }
         let Some(mark) = free else {
             return Found::Broken(rule);
         };
-        pressing = pressing.or(Some((rule, mark)));
+        // Only a broken rule would come before this one, so that later rules are left at their first mark that is not false.
+        return match first_broken(list, row, rule) {
+            Some(broken) => Found::Broken(broken),
+            None => Found::Pressing(rule, mark),
+        };
     }
-    pressing.map_or(Found::Quiet, |(rule, mark)| Found::Pressing(rule, mark))
+    Found::Quiet
+}
+
+// The first broken rule after so many of the list under a settled row.
+fn first_broken<R: RuleList>(list: &R, row: &[u8], from: usize) -> Option<usize>
+    requires { (R.RuleList.listed list.now).n ≤ length row.now }
+    ensures { result ≡ broken_in (scan_of row.now (from + 1) (drop from (R.RuleList.listed list.now).rules)) }
+{
+    'rules: for before in from..list.count() {
+        let rule = before + 1;
+        let Some(marks) = list.marks(rule) else {
+            continue 'rules;
+        };
+        for at in 0..marks {
+            let Some(mark) = list.mark(rule, at + 1) else {
+                continue 'rules;
+            };
+            let code = row[mark.part - 1];
+            if code == 0 || code == u8::from(mark.side) {
+                continue 'rules;
+            }
+        }
+        return Some(rule);
+    }
+    None
 }

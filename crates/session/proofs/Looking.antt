@@ -19,9 +19,9 @@ use Rattle.search.proofs.States.{Says, open_some, state_says}
 use Rattle.scan.specs.Lists.{book_within, shelf_within}
 use Rattle.session.specs.Moving.{Open}
 use Rattle.scan.specs.Scan as scans
-use Rattle.scan.specs.Scan.{before, rule_in, scan_of, sound_one}
+use Rattle.scan.specs.Scan.{before, broken_in, rule_in, scan_of, sound_one}
 use Rattle.scan.specs.declared.Found.{Found}
-use Rattle.scan.specs.declared.Found.TheVariants.{Broken, Pressing}
+use Rattle.scan.specs.declared.Found.TheVariants.{Broken, Pressing, Quiet}
 use Rattle.scan.proofs.Agreeing.{broken_agrees, broken_of, pressing_agrees, pressing_of, state_agrees}
 use Rattle.trail.proofs.Stacking.{row_front}
 use Rattle.turns.proofs.Working.{book_rule, shelf_rule}
@@ -116,24 +116,25 @@ module _ {b : Bench} {m : Machine} {r : Row} (k : Sees b m r) where
   unfolding look
   looks_broken q e = grind (arith, broken_all)
 
+  looks_on : (o p : Option Press) → None ≡ broken_in in_book → None ≡ broken_in on_shelf → pressing_of Book in_book ≡ o → pressing_of Shelf on_shelf ≡ p → chosen None (or_else o p) ≡ look b m
+  unfolding look
+  looks_on o p n q e f = grind (arith, broken_all, pressing_all)
+
   -- by what was found
   pub breaks_book : (i : ℕ) → Broken i ≡ in_book → turn_on (Book i) ≡ look b m
   breaks_book i e = looks_broken (Book i) (grind arith)
 
-  module _ {x : Found} (of-book : x ≡ in_book) (whole-book : (i : ℕ) → x ≡ Broken i → ⊥) where
-    pub breaks_shelf : (i : ℕ) → Broken i ≡ on_shelf → turn_on (Shelf i) ≡ look b m
-    breaks_shelf i e = looks_broken (Shelf i) (grind arith)
+  pub breaks_shelf : (i j : ℕ) (a : Mark) → Pressing j a ≡ in_book → Some i ≡ broken_in on_shelf → turn_on (Shelf i) ≡ look b m
+  breaks_shelf i j a n e = looks_broken (Shelf i) (grind arith)
 
-    module _ {y : Found} (of-shelf : y ≡ on_shelf) (whole-shelf : (i : ℕ) → y ≡ Broken i → ⊥) where
-      looks_on : (o p : Option Press) → pressing_of Book x ≡ o → pressing_of Shelf y ≡ p → chosen None (or_else o p) ≡ look b m
-      unfolding look
-      looks_on o p e f = grind (arith, broken_all, pressing_all)
+  pub breaks_later : (i : ℕ) → Quiet ≡ in_book → Broken i ≡ on_shelf → turn_on (Shelf i) ≡ look b m
+  breaks_later i n e = looks_broken (Shelf i) (grind arith)
 
-      pub presses_book : (i : ℕ) (a : Mark) → x ≡ Pressing i a → force (record { mark = a; by = Book i }) ≡ look b m
-      presses_book i a e = looks_on (Some (record { mark = a; by = Book i })) (pressing_of Shelf y) (grind arith) refl
+  pub presses_book : (i : ℕ) (a : Mark) → Pressing i a ≡ in_book → None ≡ broken_in on_shelf → force (record { mark = a; by = Book i }) ≡ look b m
+  presses_book i a e n = looks_on (Some (record { mark = a; by = Book i })) _ (grind arith) n (grind arith) refl
 
-      pub presses_shelf : ((i : ℕ) (a : Mark) → x ≡ Pressing i a → ⊥) → (i : ℕ) (a : Mark) → y ≡ Pressing i a → force (record { mark = a; by = Shelf i }) ≡ look b m
-      presses_shelf n i a e = looks_on None (Some (record { mark = a; by = Shelf i })) (grind arith) (grind arith)
+  pub presses_shelf : (i : ℕ) (a : Mark) → Quiet ≡ in_book → Pressing i a ≡ on_shelf → force (record { mark = a; by = Shelf i }) ≡ look b m
+  presses_shelf i a q e = looks_on None (Some (record { mark = a; by = Shelf i })) (grind arith) (grind arith) (grind arith) (grind arith)
 
-      pub presses_none : ((i : ℕ) (a : Mark) → x ≡ Pressing i a → ⊥) → ((i : ℕ) (a : Mark) → y ≡ Pressing i a → ⊥) → chosen None None ≡ look b m
-      presses_none n o = looks_on None None (grind arith) (grind arith)
+  pub presses_none : Quiet ≡ in_book → Quiet ≡ on_shelf → chosen None None ≡ look b m
+  presses_none q e = looks_on None None (grind arith) (grind arith) (grind arith) (grind arith)

@@ -2,6 +2,9 @@
 ghost use Rattle.std.specs.Prelude.{◌≡◌, None};
 ghost use Rattle.search.specs.Machine.{all_settled, choose, first, if_crossed, if_open, look as look_of, reason_of};
 ghost use Rattle.search.specs.Trail.{row as row_of, truth};
+ghost use Rattle.scan.specs.Lists.{book_list};
+ghost use Rattle.scan.specs.Scan.{scan_of};
+ghost use Rattle.scan.specs.declared.Found.TheVariants.{Quiet};
 ghost use Rattle.holds.specs.Holding.{holds_of};
 ghost use Rattle.session.specs.Moving.{as_move, Settles};
 ghost use Rattle.trail.specs.Stacks.{trail_of};
@@ -12,7 +15,7 @@ use crate::step::Move;
 use book::Book;
 use picker::Picker;
 use scan::lists::{BookRules, ShelfRules};
-use scan::{Found, scan_under};
+use scan::{Found, broken_under, scan_under};
 use search::Reason;
 use shelf::Shelf;
 
@@ -22,21 +25,28 @@ impl<B: Book, P: Picker, S: Shelf> Session<B, P, S> {
         ensures looked { as_move result ≡ look_of (bench_of B.Book.meaning P.Picker.meaning self.now) (machine_of B.Book.meaning S.Shelf.meaning self.now) }
         ensures free { Settles (trail_of self.now.trail) result }
     {
-        let in_book = scan_under(&BookRules(&self.book), &self.trail);
-        if let Found::Broken(rule) = in_book {
-            return Move::TurnOn(Reason::Book(rule));
+        match scan_under(&BookRules(&self.book), &self.trail) {
+            Found::Broken(rule) => Move::TurnOn(Reason::Book(rule)),
+            // Only a broken lesson comes before a pressing rule of the book.
+            Found::Pressing(rule, mark) => match broken_under(&ShelfRules(&self.shelf), &self.trail) {
+                Some(place) => Move::TurnOn(Reason::Shelf(place)),
+                None => Move::Force(mark, Reason::Book(rule)),
+            },
+            Found::Quiet => self.look_at_shelf(),
         }
-        let on_shelf = scan_under(&ShelfRules(&self.shelf), &self.trail);
-        if let Found::Broken(place) = on_shelf {
-            return Move::TurnOn(Reason::Shelf(place));
+    }
+
+    // Where no rule of the book is broken or pressing: the same of the lessons, then what the holds ask for.
+    fn look_at_shelf(&self) -> Move
+        requires { scan_of (row_of 120 (trail_of self.now.trail)) 1 (book_list (B.Book.meaning self.now.book)).rules ≡ Quiet }
+        ensures looked { as_move result ≡ look_of (bench_of B.Book.meaning P.Picker.meaning self.now) (machine_of B.Book.meaning S.Shelf.meaning self.now) }
+        ensures free { Settles (trail_of self.now.trail) result }
+    {
+        match scan_under(&ShelfRules(&self.shelf), &self.trail) {
+            Found::Broken(place) => Move::TurnOn(Reason::Shelf(place)),
+            Found::Pressing(place, mark) => Move::Force(mark, Reason::Shelf(place)),
+            Found::Quiet => self.look_at_holds(),
         }
-        if let Found::Pressing(rule, mark) = in_book {
-            return Move::Force(mark, Reason::Book(rule));
-        }
-        if let Found::Pressing(place, mark) = on_shelf {
-            return Move::Force(mark, Reason::Shelf(place));
-        }
-        self.look_at_holds()
     }
 
     // Where no rule is broken or pressing: a turn on the reason of a crossed hold, an open hold, a fit, or a question.
