@@ -1,5 +1,5 @@
 -- A table in blocks, one for each place: what stands in one, and what a change of one leaves.
-use Rattle.std.proofs.Common.{◌≡◌, ℕ, zero, suc, ◌+◌, ◌-◌, ◌*◌, ◌<◌, ◌≤◌, Bool, true, false, List, [], ◌∷◌, ◌++◌, map, length, get_or, take, drop, set, replicate, Some, None, Ok, vec_items, vec_len, Option, Vec, refl, ap, ◌∙◌, mul-le-mul_right, suc-mul, arith}
+use Rattle.std.proofs.Common.{◌≡◌, ℕ, zero, suc, ◌+◌, ◌-◌, ◌*◌, ◌<◌, ◌≤◌, Bool, true, false, List, [], ◌∷◌, ◌++◌, map, length, get_or, take, drop, set, replicate, Some, None, Ok, vec_items, vec_len, Option, Vec, refl, ap, ◌∙◌, sym, mul-le-mul_right, suc-mul, arith}
 use Rattle.std.specs.Vec.{with_items}
 use Rattle.std.specs.List.{slice_get}
 use Rattle.std.specs.Option.{option_map}
@@ -7,13 +7,13 @@ use Rattle.std.proofs.lemmas.Grind.{common_steps}
 use Rattle.std.proofs.lemmas.List.Recursion.{and_at, and_set}
 use Rattle.std.proofs.lemmas.Option.{gets, slice_get-map, unwrap_or-slice_get}
 use Rattle.std.proofs.lemmas.Bool.Decides.{nat_tests}
-use Rattle.std.proofs.lemmas.List.{with_items_is, set_split, take-take, drop-take, drop-drop, drop_at, take_at, append_assoc, length_push, length-take-le, drop_more, take_more, set-append_right, map-set, length-replicate, replicate-append-replicate}
+use Rattle.std.proofs.lemmas.List.{with_items_is, set_split, take-take, take-append-drop, drop-take, drop-drop, drop_at, take_at, append_assoc, length_push, length-take-le, drop_more, take_more, set-append_right, map-set, length-replicate, replicate-append-replicate}
 use Rattle.parts.specs.Rows.{row_marks}
 use Rattle.parts.specs.Lists.{at_place, then_at}
 use Rattle.shelf.specs.declared.entry.Entry.{Ghosts}
 use Rattle.shelf.specs.declared.table.TableShelf.{TableShelf}
 use Rattle.shelf.specs.Meaning.{Shelved, every, within, row_of, code_of_place, marks_of_place, mark_of_place, put}
-use Rattle.shelf.specs.Table.{IsBlock, parts_of, can_make, Sized, blocks, read_by, empty, length_rows}
+use Rattle.shelf.specs.Table.{IsBlock, parts_of, can_make, Sized, start, blocks, overlay, read_by, empty, length_rows}
 use Rattle.shelf.proofs.Rows.{row_outside}
 
 -- a place's block lies within the table
@@ -35,10 +35,6 @@ blocks_set w (suc p) (suc k) xs ys t d =
     let t2 : take (k * w) (drop w ys) ≡ take (k * w) (drop w xs) = rw (← drop-take w (k * w) ys, ← drop-take w (k * w) xs, ← e, t) in
     let d2 : drop (k * w + w) (drop w ys) ≡ drop (k * w + w) (drop w xs) = grind (arith, drop-drop (k * w + w) w xs, drop-drop (k * w + w) w ys) in
     grind (arith, drop-drop (k * w) w ys, blocks_set w p k (drop w xs) (drop w ys) t2 d2)
-
--- entries with others laid over them from a place on
-abbrev pub overlay : {X : Type 0} → List X → ℕ → List X → List X
-overlay entries at others = take at entries ++ (others ++ drop (at + length others) entries)
 
 module _ {X : Type 0} (xs : List X) (at : ℕ) (es : List X) (room : at + length es ≤ length xs) where
   overlay_before : take at (overlay xs at es) ≡ take at xs
@@ -75,10 +71,7 @@ lent v F d l k e = with_items_is v _ (k ∙ l) ∙ e ∙ ap F d
 pub overlay_one : {X : Type 0} (xs : List X) (at : ℕ) (h : X) → at < length xs → set xs at h ≡ overlay xs at (h ∷ [])
 overlay_one xs at h l = grind (arith, common_steps, set_split xs at h)
 
--- where a place's block begins, and what it is
-abbrev pub start : ℕ → ℕ → ℕ
-start n place = (place - 1) * (n + 1)
-
+-- a place's block
 abbrev pub block : {X : Type 0} → ℕ → List X → ℕ → List X
 block n xs place = take (n + 1) (drop (start n place) xs)
 
@@ -165,14 +158,36 @@ module _ {X : Type 0} {n p : ℕ} {xs : List X} {place : ℕ} (a : Place n p xs 
     pub in_range : within place (length (read_by row n p xs).rows) ≡ true
     in_range = grind (arith, nat_tests, length_rows row n p xs)
 
+-- other entries over the front of a block, told of the block that they are now
+overlay_block : {X : Type 0} (n at : ℕ) (xs es : List X) → length es ≤ n + 1 → at + (n + 1) ≤ length xs → overlay xs at (es ++ drop (length es) (take (n + 1) (drop at xs))) ≡ overlay xs at es
+overlay_block n at xs es fits room =
+    let l = length es in
+    let k = n + 1 - l in
+    let rest = drop (at + l) xs in
+    let e : drop l (take (n + 1) (drop at xs)) ≡ take k rest = ap (λ i. drop l (take i (drop at xs))) (omega arith) ∙ drop-take l k (drop at xs) ∙ ap (take k) (drop-drop l at xs) in
+    let size : length (es ++ take k rest) ≡ n + 1 = grind (arith, common_steps) in
+    let after : drop (at + (n + 1)) xs ≡ drop k rest = ap (λ i. drop i xs) (omega arith) ∙ sym (drop-drop k (at + l) xs) in
+    rw (e, size, after, append_assoc es (take k rest) (drop k rest), take-append-drop k rest) refl
+
 -- the block is a new one, as a write through the place's part of the table leaves it
-pub laid : {X Z : Type 0} (t : Vec X Z) {n p place : ℕ} (a : Place n p (vec_items t) place) (b : List X) → length b ≡ n + 1 → {ys : List X} {at : ℕ} → ys ≡ vec_items t → length ys ≡ vec_len t → at ≡ start n place
-    → Changed a b (with_items t (take at ys ++ (b ++ drop (at + n + 1 - at) (drop at ys)))).items
-laid t {n} {p} {place} a b long {ys} {at} same size there =
-    let k : at + (at + n + 1 - at) ≡ at + length b = omega arith in
-    let e : take at ys ++ (b ++ drop (at + n + 1 - at) (drop at ys)) ≡ overlay ys at b = ap (λ r. take at ys ++ (b ++ r)) (drop-drop (at + n + 1 - at) at ys ∙ ap (λ j. drop j ys) k) in
-    let room : at + length b ≤ length ys = omega (arith, place_within a, a.room, ap length same) in
-    changed a b b (lent t (λ r. overlay r (start n place) b) same size (ap length e ∙ length_overlay ys at b room) (e ∙ ap (λ j. overlay ys j b) there)) (omega arith) (take_at b _ (n + 1) long)
+module _ {X Z : Type 0} (t : Vec X Z) {n p place : ℕ} (a : Place n p (vec_items t) place) (b : List X) (long : length b ≡ n + 1) {ys : List X} {at : ℕ} (same : ys ≡ vec_items t) (size : length ys ≡ vec_len t) (there : at ≡ start n place) where
+  laid_over : (with_items t (take at ys ++ (b ++ drop (at + n + 1 - at) (drop at ys)))).items ≡ overlay (vec_items t) (start n place) b
+  laid_over =
+      let k : at + (at + n + 1 - at) ≡ at + length b = omega arith in
+      let e : take at ys ++ (b ++ drop (at + n + 1 - at) (drop at ys)) ≡ overlay ys at b = ap (λ r. take at ys ++ (b ++ r)) (drop-drop (at + n + 1 - at) at ys ∙ ap (λ j. drop j ys) k) in
+      let room : at + length b ≤ length ys = omega (arith, place_within a, a.room, ap length same) in
+      lent t (λ r. overlay r (start n place) b) same size (ap length e ∙ length_overlay ys at b room) (e ∙ ap (λ j. overlay ys j b) there)
+
+  -- whose front is other entries
+  pub laid_front : (es : List X) → b ≡ es ++ drop (length es) (take (at + n + 1 - at) (drop at ys)) → (with_items t (take at ys ++ (b ++ drop (at + n + 1 - at) (drop at ys)))).items ≡ overlay (vec_items t) (start n place) es
+  laid_front es e =
+      let k : at + n + 1 - at ≡ n + 1 = omega arith in
+      let is : b ≡ es ++ drop (length es) (take (n + 1) (drop (start n place) (vec_items t))) = rw (k, there, same) at e in
+      let fits : length es ≤ n + 1 = grind (arith, common_steps, ap length is) in
+      laid_over ∙ ap (overlay (vec_items t) (start n place)) is ∙ overlay_block n (start n place) (vec_items t) es fits (omega (arith, place_within a, a.room))
+
+  pub laid : Changed a b (with_items t (take at ys ++ (b ++ drop (at + n + 1 - at) (drop at ys)))).items
+  laid = changed a b b laid_over (omega arith) (take_at b _ (n + 1) long)
 
 -- a table of one entry alone has the same in every block
 pub blocks_same : {X : Type 0} (v : X) (w p : ℕ) (rest : List X) → blocks w p (replicate (p * w) v ++ rest) ≡ replicate p (replicate w v)

@@ -9,7 +9,8 @@ use Rattle.parts.specs.Codes.{is_row}
 use Rattle.parts.specs.Rows.{row_marks}
 use Rattle.parts.specs.Lists.{at_place, then_at}
 use Rattle.shelf.specs.Listed.{number_of, mark_from, marks_in, well_formed, code_in, list_row, list_block, read_marks}
-use Rattle.shelf.proofs.Blocks.{overlay, overlay_more}
+use Rattle.shelf.specs.Table.{overlay}
+use Rattle.shelf.proofs.Blocks.{overlay_more}
 use Rattle.shelf.proofs.Marks.{marks_back, marks_rise, codes_back, numbers_back, length_marks, code_at_part}
 
 -- the marks that stand in one that is well formed

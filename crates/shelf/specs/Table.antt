@@ -1,5 +1,5 @@
 -- A shelf over a table: for each place a block of n + 1 entries.
-use Rattle.std.specs.Prelude.{◌≡◌, ℕ, zero, suc, ◌+◌, ◌-◌, ◌*◌, ◌≤◌, Bool, true, cond, ◌&&◌, List, [], ◌∷◌, map, length, take, drop, replicate, Some, None, Option, ◌==◌, nat_le, slice_index, refl}
+use Rattle.std.specs.Prelude.{◌≡◌, ℕ, zero, suc, ◌+◌, ◌-◌, ◌*◌, ◌≤◌, Bool, true, cond, ◌&&◌, List, [], ◌∷◌, ◌++◌, map, length, take, drop, replicate, Some, None, Option, ◌==◌, nat_le, slice_index, refl}
 use Rattle.std.proofs.Common.{◌∙◌, arith}
 use Rattle.std.proofs.lemmas.List.{length-map}
 use Rattle.parts.specs.Lists.{at_place}
@@ -21,6 +21,14 @@ Sized n places entries = (1 ≤ n) × (n ≤ 120) × (n ≤ places) × (places �
 abbrev pub blocks : {X : Type 0} → ℕ → ℕ → List X → List (List X)
 blocks width zero entries = []
 blocks width (suc places) entries = take width entries ∷ blocks width places (drop width entries)
+
+-- where a place's block begins
+abbrev pub start : ℕ → ℕ → ℕ
+start n place = (place - 1) * (n + 1)
+
+-- entries with others laid over them from a place on
+abbrev pub overlay : {X : Type 0} → List X → ℕ → List X → List X
+overlay entries at others = take at entries ++ (others ++ drop (at + length others) entries)
 
 -- how many parts a block is for
 abbrev pub parts_of : {X : Type 0} → List X → ℕ

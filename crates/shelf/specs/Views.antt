@@ -1,7 +1,7 @@
 -- What a shelf over a table means, and the entries that it has no place for.
-use Rattle.std.specs.Prelude.{ℕ, List, drop, vec_items}
-use Rattle.shelf.specs.Meaning.{Shelved}
-use Rattle.shelf.specs.Table.{used, read_by}
+use Rattle.std.specs.Prelude.{ℕ, cond, List, drop, slice_set, vec_items}
+use Rattle.shelf.specs.Meaning.{Shelved, can_write, can_clear}
+use Rattle.shelf.specs.Table.{used, start, overlay, read_by}
 use Rattle.shelf.specs.Grid.{grid}
 use Rattle.shelf.specs.Listed.{listed}
 use Rattle.shelf.specs.declared.entry.Entry.{Ghosts}
@@ -13,6 +13,15 @@ module _ {X : Type 0} {g : Ghosts X} where
 
   abbrev pub table_rest : TableShelf X g → List X
   table_rest s = drop (used s.n s.places) (vec_items s.table)
+
+  -- its entries after a row was put at a place, and after a place was emptied; as they were where that is refused
+  abbrev pub table_written : TableShelf X g → ℕ → List ℕ → List X
+  table_written s place row =
+      cond (can_write (table_meaning s) place row) (overlay (vec_items s.table) (start s.n place) (g.block_of row)) (vec_items s.table)
+
+  abbrev pub table_cleared : TableShelf X g → ℕ → List X
+  table_cleared s place =
+      cond (can_clear (table_meaning s) place) (slice_set (vec_items s.table) (start s.n place) g.EMPTY) (vec_items s.table)
 
 -- of a grid, whose entries are codes, and of lists, whose entries are marks
 module _ {g : Ghosts ℕ} where

@@ -1,5 +1,5 @@
 // How a place of a shelf stands in its block of n + 1 entries: what kind of entry they are, and how a row is laid and read.
-ghost use Rattle.std.specs.Prelude.{◌≡◌, ℕ, ◌+◌, ◌-◌, ◌<◌, ◌≤◌, Bool, true, List, ◌∷◌, length, Some, None, Option, slice_index};
+ghost use Rattle.std.specs.Prelude.{◌≡◌, ℕ, ◌+◌, ◌-◌, ◌<◌, ◌≤◌, Bool, true, List, ◌∷◌, ◌++◌, length, drop, Some, None, Option, slice_index};
 ghost use Rattle.std.specs.Option.{option_map};
 ghost use Rattle.parts.specs.Codes.{is_row};
 ghost use Rattle.parts.specs.Rows.{row_marks};
@@ -19,6 +19,9 @@ pub trait Entry: Copy {
 
     // whether a block is well formed for n parts; only such blocks are read, and what stands in one is a row
     ghost formed: { ℕ → List Self → Bool };
+
+    // the entries that a row is laid as
+    ghost block_of: { List ℕ → List Self };
 
     ghost sound: { (n : ℕ) (block : List Self) → formed n block ≡ true → sound_place n (row_in n block) ≡ true };
 
@@ -41,13 +44,14 @@ pub trait Entry: Copy {
         requires kept { formed (parts_of block.now) block.now ≡ true }
         ensures { result ≡ then_at (row_in (parts_of block.now) block.now) (λ row. at_place (row_marks row) k) };
 
-    // Lays a row into a block, whatever stood there.
+    // Lays a row into a block, whatever stood there; what stands after the row's entries stays.
     fn lay(block: &mut [Self], row: &[u8])
         requires long { length block.old ≡ length row.now + 1 }
         requires row { is_row (length row.now) row.now ≡ true }
         requires few { length row.now ≤ 120 }
         ensures row { row_in (length row.now) block.new ≡ Some row.now }
-        ensures kept { formed (length row.now) block.new ≡ true };
+        ensures kept { formed (length row.now) block.new ≡ true }
+        ensures entries { block.new ≡ block_of row.now ++ drop (length (block_of row.now)) block.old };
 
     // a block that begins so is well formed and empty, whatever stands after
     ghost emptied: { (n : ℕ) (rest : List Self) → row_in n (EMPTY ∷ rest) ≡ None };

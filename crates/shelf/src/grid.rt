@@ -1,6 +1,6 @@
 // A shelf as a grid of codes: for each place a byte that is 0 where it is empty, and then n codes.
 ghost use Rattle.std.specs.Prelude.{◌≡◌, ◌<◌, length, Some, None, refl, MatchOption};
-ghost use Rattle.shelf.specs.Grid.{read_codes, formed_codes};
+ghost use Rattle.shelf.specs.Grid.{read_codes, formed_codes, grid_block};
 
 use crate::entry::Entry;
 use crate::table::TableShelf;
@@ -19,6 +19,8 @@ impl Entry for u8 {
     ghost row_in = { λ n block. read_codes block };
 
     ghost formed = { formed_codes };
+
+    ghost block_of = { grid_block };
 
     ghost sound = { λ n block h. h };
 

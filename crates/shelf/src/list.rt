@@ -1,7 +1,7 @@
 // A shelf as lists of marks: for each place a number that is 0 where it is empty, else 1 more than how many marks its row names,
 // and then these marks, by rising part.
 ghost use Rattle.std.specs.Prelude.{◌≡◌, ◌+◌, ◌≤◌, ℕ, map, length, slice_index, refl, MatchOption};
-ghost use Rattle.shelf.specs.Listed.{number_of, mark_from, marks_in, code_in, well_formed, read_marks, read_row, zero_formed};
+ghost use Rattle.shelf.specs.Listed.{number_of, mark_from, marks_in, code_in, well_formed, list_block, read_marks, read_row, zero_formed};
 
 use crate::entry::Entry;
 use crate::table::TableShelf;
@@ -16,6 +16,8 @@ impl Entry for u16 {
     ghost row_in = { read_marks };
 
     ghost formed = { well_formed };
+
+    ghost block_of = { list_block };
 
     ghost sound = { λ n block h. read_row n block };
 

@@ -3,7 +3,7 @@ ghost use Rattle.std.specs.Prelude.{◌≡◌, ◌+◌, ◌-◌, ◌*◌, ◌≤
 ghost use Rattle.parts.specs.declared.refusals.Refusal.TheVariants.{NotAShelf, ShelfOutOfRange};
 ghost use Rattle.shelf.specs.Meaning.{within, can_write, written, can_clear, cleared, reply};
 ghost use Rattle.shelf.specs.Table.{IsBlock, used, can_make, empty, table_sound};
-ghost use Rattle.shelf.specs.Views.{table_meaning, table_rest};
+ghost use Rattle.shelf.specs.Views.{table_meaning, table_rest, table_written, table_cleared};
 
 use crate::Shelf;
 use crate::entry::Entry;
@@ -32,7 +32,7 @@ fn fill_front<E: Entry>(entries: &mut [E], count: usize)
 impl<E: Entry> TableShelf<E> {
     // Makes an empty shelf over the table; entries past places * (n + 1) are never looked at or changed.
     pub fn new(n: usize, places: usize, table: Vec<E>) -> Result<TableShelf<E>, Refused<Vec<E>>>
-        ensures { MatchResult result (λ s. (can_make n places (vec_len table) ≡ true) × (s.n ≡ n) × (s.places ≡ places) × (table_meaning s ≡ empty n places) × (table_rest s ≡ drop (used n places) table.items)) (λ e. (can_make n places (vec_len table) ≡ false) × (e ≡ record { refusal = NotAShelf; back = table })) }
+        ensures { MatchResult result (λ s. (can_make n places (vec_len table) ≡ true) × (s.n ≡ n) × (s.places ≡ places) × (table_meaning s ≡ empty n places) × (table_rest s ≡ drop (used n places) table.items) × (s.table.items ≡ replicate (used n places) E.EMPTY ++ drop (used n places) table.items)) (λ e. (can_make n places (vec_len table) ≡ false) × (e ≡ record { refusal = NotAShelf; back = table })) }
     {
         if !can_make(n, places, table.len()) {
             return Err(Refused {
@@ -109,6 +109,7 @@ impl<E: Entry> Shelf for TableShelf<E> {
     fn write(&mut self, place: usize, row: &[u8]) -> Result<(), Refusal>
         ensures answer { result ≡ reply (can_write (table_meaning self.old) place row.now) }
         ensures after { table_meaning self.new ≡ written (table_meaning self.old) place row.now }
+        ensures entries { self.new.table.items ≡ table_written self.old place row.now }
         ensures rest { table_rest self.new ≡ table_rest self.old }
     {
         let start = self.start(place)?;
@@ -122,6 +123,7 @@ impl<E: Entry> Shelf for TableShelf<E> {
     fn clear(&mut self, place: usize) -> Result<(), Refusal>
         ensures answer { result ≡ reply (can_clear (table_meaning self.old) place) }
         ensures after { table_meaning self.new ≡ cleared (table_meaning self.old) place }
+        ensures entries { self.new.table.items ≡ table_cleared self.old place }
         ensures rest { table_rest self.new ≡ table_rest self.old }
     {
         let start = self.start(place)?;

@@ -3,7 +3,8 @@ use Rattle.std.proofs.lemmas.List.{take_all, length_push}
 use Rattle.parts.specs.declared.Mark.{Mark}
 use Rattle.parts.specs.Rows.{row_marks}
 use Rattle.shelf.specs.Listed.{number_of, list_block}
-use Rattle.shelf.proofs.Blocks.{overlay, overlay_head}
+use Rattle.shelf.specs.Table.{overlay}
+use Rattle.shelf.proofs.Blocks.{overlay_head}
 use Rattle.shelf.proofs.Marks.{marks_more_none, marks_more_some}
 use Rattle.shelf.proofs.Listings.{mark_laid, new_formed, new_row}
 use Rattle.shelf.proofs.list.U16Entry.lay.Goals as goal
@@ -40,4 +41,5 @@ pub returns : goal.returns
 returns c =
     let row = c.args.row.now in
     let e = laid (goal.at.returns c).After-loop-i in
-    record { row = rw e (new_row (length row) row _ c.requires.row); kept = rw e (new_formed (length row) row _ c.requires.row) }
+    let z : 0 + length (list_block row) ≡ length (list_block row) = omega arith in
+    record { row = rw e (new_row (length row) row _ c.requires.row); kept = rw e (new_formed (length row) row _ c.requires.row); entries = e ∙ ap (λ j. list_block row ++ drop j c.args.block.now) z }

@@ -1,7 +1,7 @@
 use Rattle.std.proofs.Common.{◌≡◌, suc, ◌+◌, ◌≤◌, map, length, take}
 use Rattle.parts.specs.Rows.{row_marks}
 use Rattle.shelf.specs.Listed.{number_of}
-use Rattle.shelf.proofs.Blocks.{overlay}
+use Rattle.shelf.specs.Table.{overlay}
 use Rattle.shelf.proofs.list.U16Entry.lay.Given as goal
 
 abbrev pub invariant-loop-i : goal.invariant-loop-i

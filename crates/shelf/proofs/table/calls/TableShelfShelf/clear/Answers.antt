@@ -19,4 +19,4 @@ returns g c =
     let m = emptied a g.E.Entry.EMPTY c.in_ok-start.ensures.2 c.EMPTY.ensures in
     let e = m.after (g.E.Entry.row_in s.n) None (g.met.E.Entry.emptied s.n _) in
     let h = in_range a (g.E.Entry.row_in s.n) in
-    record { answer = grind arith; after = grind arith; rest = m.rest }
+    record { answer = grind arith; after = grind arith; entries = grind (arith, c.in_ok-start.ensures.2, c.EMPTY.ensures); rest = m.rest }

@@ -2,7 +2,7 @@ use Rattle.std.proofs.Common.{◌≡◌, ◌+◌, true, length, Some, vec_items,
 use Rattle.parts.specs.Codes.{is_row}
 use Rattle.shelf.specs.Table.{length_rows}
 use Rattle.shelf.proofs.Rows.{row_length}
-use Rattle.shelf.proofs.Blocks.{Place, place_of, is_block, in_range, laid}
+use Rattle.shelf.proofs.Blocks.{Place, place_of, is_block, in_range, laid, laid_front}
 use Rattle.shelf.proofs.table.calls.TableShelfShelf.write.Goals as goal
 use Rattle.shelf.proofs.table.calls.TableShelfShelf.write.Goals.{After-lay}
 
@@ -35,4 +35,4 @@ returns g c =
     let e = m.after (g.E.Entry.row_in s.n) (Some c.args.row.now) (rw (← row_length s.n c.args.row.now (ok g h)) c.lay.ensures.row) in
     let i = in_range (there g h) (g.E.Entry.row_in s.n) in
     let o = ok g h in
-    record { answer = grind arith; after = grind arith; rest = m.rest }
+    record { answer = grind arith; after = grind arith; entries = grind (arith, laid_front s.table (there g h) c.lay.new.block (long g h) c.deref_mut.ensures.value c.deref_mut.ensures.len c.in_ok-start.ensures.2 (g.E.Entry.block_of c.args.row.now) c.lay.ensures.entries); rest = m.rest }
