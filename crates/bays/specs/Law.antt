@@ -5,7 +5,7 @@ use Rattle.parts.specs.declared.Mark.{Mark}
 use Rattle.parts.specs.declared.Side.{Side}
 use Rattle.parts.specs.declared.Side.TheVariants.{In, Out}
 use Rattle.book.specs.Meaning.{Rule}
-use Rattle.bays.specs.Meaning.{in_mark, out_mark, bay_book}
+use Rattle.bays.specs.Meaning.{bay_book}
 
 abbrev pub is_in : Side → Bool
 is_in In = true
@@ -32,9 +32,3 @@ OneInEach f from (w ∷ ws) = OneIn f from w × OneInEach f (from + w) ws
 -- a full choice meets all rules of these bays exactly if it has exactly one part of each bay in
 abbrev pub HoldOne : List ℕ → Type 0
 HoldOne ws = (f : ℕ → Bool) → (AllByRecursion (Meets f) (bay_book ws).rules → OneInEach f 1 ws) × (OneInEach f 1 ws → AllByRecursion (Meets f) (bay_book ws).rules)
-
--- bays of 2 parts and of 1: 1 2; -1 -2; 3
-abbrev pub TwoBays : Type 0
-TwoBays =
-    bay_book (2 ∷ 1 ∷ [])
-    ≡ record { n = 3; rules = (in_mark 1 ∷ in_mark 2 ∷ []) ∷ (out_mark 1 ∷ out_mark 2 ∷ []) ∷ (in_mark 3 ∷ []) ∷ [] }

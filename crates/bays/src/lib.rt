@@ -1,12 +1,12 @@
 // A book that is computed from the widths of bays: exactly one part of each bay is in. It stores no rule.
 #![tactic(auto)]
 
-ghost use Rattle.std.specs.Prelude.{◌≡◌, true, false, [], ◌∷◌, length, if◌then◌else◌, Some, None, MatchResult};
+ghost use Rattle.std.specs.Prelude.{◌≡◌, true, false, if◌then◌else◌, Some, None, MatchResult};
 ghost use Rattle.parts.specs.declared.refusals.Refusal.TheVariants.{NotABook};
 ghost use Rattle.bays.specs.Meaning.{total, bay_book, rule_count, fit_bays};
 ghost use Rattle.bays.specs.Fit.{bay_sound};
 ghost use Rattle.bays.specs.Spots.{Spotted};
-ghost use Rattle.bays.specs.Law.{HoldOne, TwoBays};
+ghost use Rattle.bays.specs.Law.{HoldOne};
 
 mod spots;
 #[cfg(test)]
@@ -30,7 +30,7 @@ pub struct BayBook {
 
 impl BayBook {
     // A book of bays of 1 to 20 parts each, and at most 120 together.
-    #[tactic(auto, using(crate::proofs::Law::hold_one))]
+    #[tactic(auto, using(crate::proofs::Walks::hold_one))]
     pub fn new(widths: Vec<u16>) -> Result<BayBook, Refused<Vec<u16>>>
         ensures { MatchResult result (λ b. (fit_bays widths.items ≡ true) × (b.widths ≡ widths) × HoldOne widths.items) (λ e. (fit_bays widths.items ≡ false) × (e ≡ record { refusal = NotABook; back = widths })) }
     {
@@ -106,14 +106,6 @@ impl Book for BayBook {
             Spot::NotBoth(bay, pair) => bay.pair_at(pair)?.not_both(place),
         }
     }
-}
-
-// The rules of two bays, written out, and how many they are.
-pub fn case_stands() -> usize
-    ensures count { result ≡ length (bay_book (2 ∷ 1 ∷ [])).rules }
-    ensures rules { TwoBays }
-{
-    3
 }
 
 // How many parts and rules the bays have together; nothing where their widths make no book.

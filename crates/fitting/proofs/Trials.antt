@@ -1,38 +1,21 @@
 -- Calls up to the first refused one, and a whole trial.
-use Rattle.std.proofs.Common.{◌≡◌, ℕ, zero, suc, List, [], ◌∷◌, ◌++◌, length, Some, None, Ok, Err, Result, refl, arith}
+use Rattle.std.proofs.Common.{◌≡◌, ℕ, zero, suc, List, [], ◌∷◌, ◌++◌, length, Some, None, Ok, Err, refl, arith}
 use Rattle.std.proofs.lemmas.Grind.{common_steps}
 use Rattle.parts.specs.Codes.{code_of}
 use Rattle.parts.specs.declared.Mark.{Mark}
 use Rattle.parts.specs.declared.refusals.Refusal.{Refusal}
 use Rattle.shelf.specs.Meaning.{Shelved}
-use Rattle.search.specs.declared.Report.{Report}
-use Rattle.search.specs.declared.Told.{Told}
-use Rattle.search.specs.declared.Told.TheVariants.{Fits, NoneFits, Spent}
 use Rattle.search.specs.Trail.{Row, row}
 use Rattle.search.specs.Machine.{Bench, Machine, fits, none_fits, Move, turned, pushed, idle, fitted, act, look, step, run}
-use Rattle.search.specs.Calls.{Call, hold, run_for, refuses, accepted, restarted, call, calls, opened, reply, report, run_reply, choice_row, named_row}
+use Rattle.search.specs.Calls.{Call, hold, run_for, refuses, accepted, restarted, call, calls, opened, reply, report, run_reply}
 use Rattle.search.specs.Law.{Lawful, Stands, Promised, budgets}
-use Rattle.search.proofs.Leaving.{refused_same}
 use Rattle.search.proofs.Promises.{search_keeps_its_promises}
 use Rattle.search.proofs.Settled.{length_row}
 use Rattle.fitting.specs.Fitting.{Fitting, Unfitting, Until, or_on, until, holding, trial, row_to_show, told_with, trial_row, trial_reply, ToldTruly}
-use Rattle.session.specs.View.{filled, done}
-
-abbrev pub stopped_at : Refusal → Machine → Until
-stopped_at why m = record { stopped = Some why; state = m }
-
--- one call more, by its reply and the state after it
-module _ (b : Bench) (c : Call) (cs : List Call) (m m' : Machine) (after : m' ≡ call b c m) where
-  pub until_stop : (why : Refusal) → Err why ≡ reply {X = Unit {0}} (refuses b m c) tt → until b (c ∷ cs) m ≡ stopped_at why m'
-  unfolding until
-  until_stop why e = grind (arith, refused_same b m c why)
-
-  pub until_on : Ok tt ≡ reply {X = Unit {0}} (refuses b m c) tt → until b (c ∷ cs) m ≡ until b cs m'
-  unfolding until
-  until_on e = grind arith
+use Rattle.session.specs.View.{filled}
 
 -- more calls after those that were not refused
-abbrev then_on : Bench → List Call → Until → Until
+abbrev pub then_on : Bench → List Call → Until → Until
 then_on b ds u = or_on u.stopped u.state (until b ds u.state)
 
 until_more : (b : Bench) (cs ds : List Call) (m : Machine) → until b (cs ++ ds) m ≡ then_on b ds (until b cs m)
@@ -71,7 +54,7 @@ module _ (b : Bench) (hs : List Mark) (k : ℕ) (m : Machine) where
   abbrev pub held : Until
   held = until b (holding hs) m
 
-  trial_parts : trial b hs k m ≡ then_on b (run_for k ∷ []) held
+  pub trial_parts : trial b hs k m ≡ then_on b (run_for k ∷ []) held
   unfolding trial
   trial_parts = until_more b (holding hs) (run_for k ∷ []) m
 
@@ -100,35 +83,14 @@ trial_truly b s hs k old law =
     let p : u.stopped ≡ None → Promised b u.state (budgets b cs (opened s) 0) = λ e. rw (until_calls b cs (opened s) e) (search_keeps_its_promises b s cs law) in
     grind (arith, λ (e : u.stopped ≡ None). told_truly b u.state hs old (budgets b cs (opened s) 0) (p e) (trial_holds b hs k (opened s) e))
 
--- the rows that are asked for by what is told, and the report after the reply
-abbrev pub asked_by : Told → ℕ → Machine → ℕ → Row → Result Row Refusal
-asked_by Spent n m len old = Ok old
-asked_by Fits n m len old = choice_row n m len
-asked_by NoneFits n m len old = named_row n m len
+-- the reply where a hold was refused, and where the run was
+module _ (b : Bench) (hs : List Mark) (k : ℕ) (m : Machine) (old : Row) (why : Refusal) where
+  pub stopped_reply : Err why ≡ reply {X = Unit {0}} (held b hs k m).stopped tt → Err why ≡ trial_reply b.book.n (trial b hs k m) old
+  stopped_reply e = let s : (held b hs k m).stopped ≡ Some why = grind arith in grind (arith, trial_parts b hs k m)
 
-abbrev pub answered : Result (Unit {0}) Refusal → Report → Result Report Refusal
-answered (Ok x) told = Ok told
-answered (Err why) told = Err why
-
--- the reply, the state and the row after a trial, by where it ended, beside what was kept
-abbrev pub Ends : Bench → List Mark → ℕ → Machine → Row → Type 0 → Result Report Refusal → Machine → Row → Type 0
-Ends b hs k m old kept r m' new =
-    let u = trial b hs k m in
-    record { answer : r ≡ trial_reply b.book.n u old; after : m' ≡ u.state; shows : new ≡ filled (trial_row b.book.n u old) old; kept : kept }
-
-module _ (b : Bench) (hs : List Mark) (k : ℕ) (m : Machine) (old : Row) (m' : Machine) {K : Type 0} (kept : K) where
-  pub ends_held : (why : Refusal) → Err why ≡ reply {X = Unit {0}} (held b hs k m).stopped tt → m' ≡ (held b hs k m).state → Ends b hs k m old K (Err why) m' old
-  ends_held why e q = let s : (held b hs k m).stopped ≡ Some why = grind arith in grind (arith, trial_parts b hs k m)
-
-  module _ (h : Ok tt ≡ reply {X = Unit {0}} (held b hs k m).stopped tt) (q : m' ≡ call b (run_for k) (held b hs k m).state) where
-    pub ends_unrun : (why : Refusal) → Err why ≡ run_reply b (held b hs k m).state k → Ends b hs k m old K (Err why) m' old
-    unfolding until
-    ends_unrun why e =
-        let s : (held b hs k m).stopped ≡ None = grind arith in
-        let w : refuses b (held b hs k m).state (run_for k) ≡ Some why = grind arith in
-        grind (arith, trial_parts b hs k m, refused_same b (held b hs k m).state (run_for k) why)
-
-    pub ends_told : (told : Report) (v : Told) (a : Result (Unit {0}) Refusal) (new : Row) → Ok told ≡ run_reply b (held b hs k m).state k → told.told ≡ v
-        → a ≡ done (asked_by v b.book.n m' (length old) old) → new ≡ filled (asked_by v b.book.n m' (length old) old) old → Ends b hs k m old K (answered a told) m' new
-    unfolding until
-    ends_told told v a new e f x y = grind (arith, trial_parts b hs k m)
+  pub unrun_reply : Ok tt ≡ reply {X = Unit {0}} (held b hs k m).stopped tt → Err why ≡ run_reply b (held b hs k m).state k → Err why ≡ trial_reply b.book.n (trial b hs k m) old
+  unfolding until
+  unrun_reply h e =
+      let s : (held b hs k m).stopped ≡ None = grind arith in
+      let w : refuses b (held b hs k m).state (run_for k) ≡ Some why = grind arith in
+      grind (arith, trial_parts b hs k m)

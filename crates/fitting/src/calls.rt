@@ -53,6 +53,7 @@ pub fn fit<B: Book, P: Picker, S: Shelf>(
 }
 
 // Holds every mark, runs once, and fills the row with what the verdict shows.
+#[tactic(auto, using(crate::proofs::Trials::trial_parts, search::proofs::Promises::refused_same, session::proofs::Runs::bench_same, session::proofs::Runs::kept_more, std::proofs::lemmas::Bool::Decides::nat_tests, std::proofs::lemmas::Result::err_from_is_err_and), unfolding(crate::specs::Fitting::until))]
 fn fit_under<B: Book, P: Picker, S: Shelf>(
     session: &mut Session<B, P, S>,
     holds: &[Mark],
@@ -75,6 +76,7 @@ fn fit_under<B: Book, P: Picker, S: Shelf>(
 }
 
 // Holds every mark, up to the first that is refused.
+#[tactic(auto, using(session::proofs::Runs::bench_same, session::proofs::Runs::kept_more, std::proofs::lemmas::Grind::common_steps, std::proofs::lemmas::List::at_drop_more, std::proofs::lemmas::List::drop_all, std::proofs::lemmas::Result::err_from_is_err_and, search::proofs::Promises::refused_same), unfolding(crate::specs::Fitting::until))]
 fn hold_all<B: Book, P: Picker, S: Shelf>(
     session: &mut Session<B, P, S>,
     holds: &[Mark],

@@ -15,13 +15,11 @@ use Rattle.grammar.specs.Writing.{mark_text, mark_field, rule_line, text_of, too
 use Rattle.grammar.specs.Format.{Blank, Inline, Field, Fields, Rest, Lines, Format}
 use Rattle.grammar.specs.Format.Rest.{ends, reads}
 use Rattle.grammar.specs.Format.Layout.{begins}
-use Rattle.grammar.proofs.Turns.{past, refused}
+use Rattle.grammar.proofs.Lines.{past, refused}
 use Rattle.grammar.proofs.Fields.{fields_after}
-use Rattle.grammar.proofs.Numbers.{decimal_digits}
-use Rattle.grammar.proofs.Marks.{sound_parts}
-use Rattle.grammar.proofs.RuleLine.{rule_words}
-use Rattle.grammar.proofs.Head.{head_words}
-use Rattle.grammar.proofs.Accepted.{reading_is_the_format}
+use Rattle.grammar.proofs.Numbers.{decimal_digits, sound_parts}
+use Rattle.grammar.proofs.RuleLines.{rule_words}
+use Rattle.grammar.proofs.Accepted.{head_words, reading_is_the_format}
 
 -- a line has its blanks and its fields alone
 pub fields_inline : (ws : List (List ℕ)) (line : List ℕ) → Fields ws line → AllByRecursion Inline line

@@ -1,10 +1,6 @@
-pub mod Turns
 pub mod Lines
 pub mod Fields
 pub mod Numbers
-pub mod Marks
-pub mod RuleLine
 pub mod RuleLines
-pub mod Head
 pub mod Accepted
 pub mod Back

@@ -1,10 +1,24 @@
 -- The lines of a text are those that the format speaks of.
-use Rattle.std.proofs.Common.{◌≡◌, ℕ, ◌+◌, eqb, List, [], ◌∷◌, ◌++◌, map, length, refl, inl, inr, arith}
+use Rattle.std.proofs.Common.{◌≡◌, Bool, true, false, cond, Some, None, Ok, Err, refl, ℕ, ◌+◌, eqb, List, [], ◌∷◌, ◌++◌, map, length, inl, inr, arith}
 use Rattle.std.specs.List.{AllByRecursion}
 use Rattle.std.proofs.lemmas.Bool.{cond_both}
 use Rattle.std.proofs.lemmas.Bool.Decides.{nat_tests}
 use Rattle.grammar.specs.Pieces.{Piece, grown, lines}
 use Rattle.grammar.specs.Format.{Inline, Lines}
+
+-- Which way a test went, told by what came of it.
+-- the way that would lead elsewhere was not taken
+pub past : {A : Type 0} (b : Bool) (x y z : A) → (x ≡ z → ⊥) → cond b x y ≡ z → (b ≡ false) × (y ≡ z)
+past b x y z n e = grind arith
+
+pub passed : {A : Type 0} (b : Bool) (x y z : A) → (y ≡ z → ⊥) → cond b x y ≡ z → (b ≡ true) × (x ≡ z)
+passed b x y z n e = grind arith
+
+pub none : {A : Type 0} (v : A) → None ≡ Some v → ⊥
+none v e = cc
+
+pub refused : {A E : Type 0} (e : E) (x : A) → Err e ≡ Ok x → ⊥
+refused e x h = cc
 
 -- the bytes of pieces, wherever they stand
 abbrev pub bytes_of : List Piece → List (List ℕ)

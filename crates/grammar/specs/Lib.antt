@@ -4,4 +4,3 @@ pub mod Reading
 pub mod Writing
 pub mod Format
 pub mod Law
-pub mod Cases

@@ -1,8 +1,8 @@
 // The text of a book by definition, its format as a grammar, and the laws that tie them. The definitions are in specs/.
 #![tactic(auto)]
 
-ghost use Rattle.std.specs.Prelude.{◌≡◌, length};
-ghost use Rattle.grammar.specs.Cases.{table, CasesHold};
+ghost use Rattle.std.specs.Prelude.{◌≡◌};
+ghost use Rattle.grammar.specs.Law.{ReadingIsTheFormat, WritingReadsBack};
 
 // How large a book is: its parts and its rules, as its head tells them.
 #[derive(Clone, Copy, Debug, PartialEq, Eq)]
@@ -28,10 +28,12 @@ pub struct Place {
     pub to: usize,
 }
 
-// How many worked texts there are, each of which reads as the table says.
-pub fn cases_stand() -> usize
-    ensures count { result ≡ length table }
-    ensures cases { CasesHold }
+// The laws of reading and writing: see specs/Law.antt. It tells how many they are.
+#[tactic(auto, using(crate::proofs::Accepted::reading_is_the_format, crate::proofs::Back::writing_reads_back))]
+pub fn laws_stand() -> usize
+    ensures count { result ≡ 2 }
+    ensures reading { ReadingIsTheFormat }
+    ensures writing { WritingReadsBack }
 {
-    6
+    2
 }

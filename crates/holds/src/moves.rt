@@ -84,6 +84,7 @@ impl Holds {
     }
 
     // The holds whose opposites a working row names, as a row.
+    #[tactic(auto, using(std::proofs::lemmas::Grind::common_steps), unfolding(search::specs::Machine::named_holds, search::specs::Trail::enter))]
     pub fn name_into(&self, work: &[u8], named: &mut [u8])
         ensures { named.new ≡ named_holds (length named.old) work.now (holds_of self.now) }
     {

@@ -1,6 +1,7 @@
 -- The second pass, line by line.
-use Rattle.std.proofs.Common.{◌≡◌, ℕ, ◌+◌, ◌≤◌, true, List, [], ◌∷◌, ◌++◌, map, length, set, ℤ, nat_abs, Ok, sym, ap, ◌∙◌, inl, inr, arith}
-use Rattle.std.proofs.lemmas.List.{length-append, length-map, nil_from_length}
+use Rattle.std.proofs.Common.{◌≡◌, ℕ, ◌+◌, ◌<◌, ◌≤◌, List, [], ◌∷◌, ◌++◌, length, take, drop, set, refl, ◌∙◌, arith, true, map, ℤ, nat_abs, Ok, sym, ap, inl, inr}
+use Rattle.std.proofs.lemmas.List.{append-nil, append_assoc, length-set, length-take-le, take-append-drop, take_more_set, drop-set-lt, drop-drop, length-append, length-map, nil_from_length}
+use Rattle.reading.specs.Fills.{Front, filled, stored}
 use Rattle.std.specs.List.{AllByRecursion}
 use Rattle.book.specs.Meaning.{Rule}
 use Rattle.book.specs.Tables.{mark_table, end_table, number_from}
@@ -10,12 +11,32 @@ use Rattle.grammar.specs.Pieces.{Piece, counted}
 use Rattle.grammar.specs.Reading.{limit, rules_of}
 use Rattle.grammar.proofs.Lines.{lines_of, lines_inline}
 use Rattle.grammar.proofs.RuleLines.{place_of, step_rules, rules_to}
-use Rattle.reading.specs.Fills.{Front, filled, stored}
 use Rattle.reading.specs.Pieces.{counts, all_lines, lines_left}
 use Rattle.reading.specs.declared.pieces.Lines.{Lines}
-use Rattle.reading.proofs.Accepts.{rule_stores, numbers_back}
-use Rattle.reading.proofs.Fronts.{front_none, front_more, front_all}
+use Rattle.reading.proofs.RuleSteps.{rule_stores, numbers_back}
 use Rattle.reading.proofs.Counting.{some_field, rules_counting}
+
+-- A table that is filled from its front.
+module _ {X : Type 0} (before all : List X) where
+  -- nothing is written yet
+  pub front_none : length all ≤ length before → Front before all all before 0
+  front_none h = record { long = refl; room = omega arith; front = refl; rest = refl }
+
+  -- one entry more
+  pub front_more : (left table : List X) (k : ℕ) (x : X) → Front before all (x ∷ left) table k → Front before all left (set table k x) (k + 1)
+  front_more left table k x f =
+      let inside : k < length table = omega (arith, f.room, f.long) in
+      record {
+        long = length-set table k x ∙ f.long;
+        room = omega (arith, f.room);
+        front = rw (take_more_set table k x inside, append_assoc) f.front;
+        rest = rw (drop-set-lt (k + 1) table k x (omega arith), ← drop-drop 1 k table, f.rest) (drop-drop 1 k before);
+      }
+
+  -- all is written
+  pub front_all : (table : List X) (k : ℕ) → Front before all [] table k → table ≡ all ++ drop (length all) before
+  front_all table k f =
+      grind (arith, f.front, f.rest, append-nil (take k table), length-take-le k table (omega (arith, f.room, f.long)), take-append-drop k table)
 
 -- the room that these tables give
 abbrev pub room_in : ℕ → List ℤ → List ℕ → Room

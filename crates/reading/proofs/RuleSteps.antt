@@ -1,21 +1,74 @@
 -- One mark more of a rule line.
-use Rattle.std.proofs.Common.{◌≡◌, ◌+◌, ◌≤◌, true, eqb, List, [], ◌∷◌, ◌++◌, set, ℤ, pos, negsuc, nat_abs, Some, arith, w16, w32, SFits, to_z, of_z}
-use Rattle.std.proofs.lemmas.Grind.{common_steps}
-use Rattle.std.proofs.lemmas.List.Folds.{list_any-append}
-use Rattle.std.proofs.lemmas.List.{length_push}
+use Rattle.std.proofs.Common.{◌≡◌, List, [], ◌∷◌, ℤ, nat_abs, Some, None, arith, w32, SFits, of_z, ◌+◌, ◌≤◌, eqb, ◌++◌, map, length, Ok, sym, refl, true, set, pos, negsuc, w16, to_z}
 use Rattle.std.proofs.lemmas.Bool.Decides.{nat_tests}
-use Rattle.std.proofs.lemmas.Int.{to_z-of_z}
-use Rattle.book.specs.Meaning.{Rule}
-use Rattle.book.specs.Tables.{mark_from}
-use Rattle.grammar.specs.declared.Place.{Place}
-use Rattle.grammar.specs.declared.Room.{Room}
 use Rattle.grammar.specs.Numbers.{signed}
 use Rattle.grammar.specs.Pieces.{Piece}
-use Rattle.grammar.specs.Reading.{rule_of}
-use Rattle.grammar.proofs.Marks.{Taken, part_from}
-use Rattle.grammar.proofs.RuleLine.{rule_step}
+use Rattle.reading.specs.Fills.{stored}
+use Rattle.std.proofs.lemmas.List.{append-nil, append_assoc, length_push}
+use Rattle.std.proofs.lemmas.Bool.{cond_both, eqb-true, eqb-false}
+use Rattle.std.specs.List.{AllByRecursion}
+use Rattle.book.specs.Meaning.{Rule}
+use Rattle.book.specs.Tables.{mark_from, number_from}
+use Rattle.grammar.specs.declared.Place.{Place}
+use Rattle.grammar.specs.declared.Room.{Room}
+use Rattle.grammar.specs.Reading.{limit, closed, rule_of}
+use Rattle.grammar.proofs.Numbers.{Taken, part_from}
+use Rattle.grammar.proofs.RuleLines.{step_rule, rule_step}
+use Rattle.std.proofs.lemmas.Grind.{common_steps}
+use Rattle.std.proofs.lemmas.List.Folds.{list_any-append}
+use Rattle.std.proofs.lemmas.Int.{to_z-of_z}
 use Rattle.reading.specs.Named.{Shows}
 use Rattle.reading.specs.declared.checking.OpenRule.{OpenRule}
+
+-- What a rule line, and a text, that were let through tell of the tables.
+-- One field more of a rule line that is stored.
+module _ {fs : List Piece} {f : Piece} {rest : List Piece} (e : fs ≡ f ∷ rest) where
+  pub stored_stop : None ≡ signed f.bytes → stored fs ≡ []
+  stored_stop s = grind arith
+
+  module _ (z : ℤ) (s : Some z ≡ signed f.bytes) where
+    pub stored_zero : nat_abs z ≡ 0 → stored fs ≡ []
+    stored_zero h = grind (arith, nat_tests)
+
+    pub stored_mark : (nat_abs z ≡ 0 → ⊥) → stored fs ≡ z ∷ stored rest
+    stored_mark h = grind (arith, nat_tests)
+
+pub bits_zero : (z : ℤ) → SFits w32 z → of_z w32 z ≡ 0 → nat_abs z ≡ 0
+bits_zero z s h = grind (arith, s.sfits)
+
+-- a rule that was let through after the marks `seen`: it goes on with the line's numbers, and the tables take it
+pub record Stores (room : Room) (place : Place) (seen : Rule) (fs : List Piece) (r : Rule) : Type 0 where
+  pub goes_on : r ≡ seen ++ map mark_from (stored fs)
+  pub small : AllByRecursion (λ z. nat_abs z ≤ room.n) (stored fs)
+  pub fits : place.used + length seen ≤ limit room.marks → place.used + length r ≤ limit room.marks
+
+closes : (place : Place) (seen r : Rule) (fs : List Piece) → closed place seen fs ≡ Ok r → seen ≡ r
+closes place seen r fs e = grind arith
+
+pub rule_stores : (room : Room) (place : Place) (seen : Rule) (fs : List Piece) (r : Rule) → rule_of room place seen fs ≡ Ok r → Stores room place seen fs r
+rule_stores room place seen [] r e = grind arith
+rule_stores room place seen (f ∷ fs) r e =
+    let (z, worth, t, more) = step_rule room place seen r f fs e in
+    cond_both (eqb (nat_abs z) 0) _ _ (λ x. x ≡ Ok r → Stores room place seen (f ∷ fs) r) (λ q h. ends z t (stored_zero {f = f} {rest = fs} refl z (sym worth) (eqb-true _ _ q)) (closes place seen r fs h)) (λ q h. goes z t (eqb-false _ _ q) (stored_mark {f = f} {rest = fs} refl z (sym worth) (eqb-false _ _ q)) (rule_stores room place (seen ++ mark_from z ∷ []) fs r h)) more
+  where
+    ends : (z : ℤ) → Taken room place seen z → stored (f ∷ fs) ≡ [] → seen ≡ r → Stores room place seen (f ∷ fs) r
+    ends z t none is = record {
+      goes_on = grind (arith, append-nil seen);
+      small = rw none tt;
+      fits = λ h. rw (← is) h;
+    }
+
+    goes : (z : ℤ) → Taken room place seen z → (nat_abs z ≡ 0 → ⊥) → stored (f ∷ fs) ≡ z ∷ stored fs → Stores room place (seen ++ mark_from z ∷ []) fs r → Stores room place seen (f ∷ fs) r
+    goes z t some is s = record {
+      goes_on = rw (s.goes_on, append_assoc, is);
+      small = rw is (t.within, s.small);
+      fits = λ h. s.fits (rw length_push (omega (arith, t.fits some)));
+    }
+
+-- the numbers of a rule's marks are those on its line
+pub numbers_back : (zs : List ℤ) → map number_from (map mark_from zs) ≡ zs
+numbers_back [] = refl
+numbers_back (z ∷ zs) = grind (arith, numbers_back zs)
 
 -- a mark is taken, and the rule goes on
 pub rule_mark : (room : Room) (place : Place) (seen : Rule) (f : Piece) (fs : List Piece) (z : ℤ) → signed f.bytes ≡ Some z → Taken room place seen z → (nat_abs z ≡ 0 → ⊥) → rule_of room place seen (f ∷ fs) ≡ rule_of room place (seen ++ mark_from z ∷ []) fs

@@ -35,6 +35,7 @@ fn fault(refusal: Refusal, byte: usize, rule: usize) -> Fault
 
 // Reads the text of a book: its marks into one table, where each rule's marks end into the other, and tells its size.
 // A refused text leaves both tables as they were; entries past those that are filled stay as they were too.
+#[tactic(auto, using(std::proofs::lemmas::Result::err_from_is_err_and, grammar::proofs::Accepted::reading_is_the_format, crate::proofs::Replied::too_long, crate::proofs::Replied::by_lines, crate::proofs::Replied::rules_refused, crate::proofs::Replied::rules_passed))]
 pub fn read(text: &[u8], marks: &mut [i16], ends: &mut [u16]) -> Result<Size, Fault>
     ensures reply { result ≡ told (read_of (length marks.old) (length ends.old) text.now) }
     ensures marks { marks.new ≡ filled (mark_table (rules_in (read_of (length marks.old) (length ends.old) text.now))) marks.old }

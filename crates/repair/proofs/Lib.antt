@@ -1,3 +1,2 @@
-pub mod Unrefused
 pub mod Tells
 pub mod Lines

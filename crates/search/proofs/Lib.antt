@@ -7,8 +7,5 @@ pub mod Turn
 pub mod States
 pub mod Places
 pub mod Look
-pub mod Named
 pub mod Step
-pub mod Keeping
 pub mod Promises
-pub mod Leaving

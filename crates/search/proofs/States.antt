@@ -2,7 +2,7 @@
 use Rattle.std.proofs.Common.{◌≡◌, ◌≢◌, ◌⊎◌, [], ◌∷◌, Some, None, arith}
 use Rattle.parts.specs.declared.Mark.{Mark}
 use Rattle.book.specs.Meaning.{Rule}
-use Rattle.search.specs.Trail.{Trail, settled, truth, State, broken, pressing, quiet, weigh, state}
+use Rattle.search.specs.Trail.{Trail, settled, truth, State, broken, pressing, quiet, state}
 use Rattle.search.specs.Machine.{if_open}
 use Rattle.search.specs.Law.{Among}
 use Rattle.search.proofs.Invariant.{Failed}
@@ -13,14 +13,11 @@ Says t r broken = (y : Mark) → Among y r → Failed t y
 Says t r (pressing x) = Among x r × (settled t x.part ≡ None) × ((y : Mark) → Among y r → (y ≡ x) ⊎ Failed t y)
 Says t r quiet = ((y : Mark) → Among y r → settled t y.part ≢ None) → (y : Mark) × Among y r × (settled t y.part ≡ Some y.side)
 
-weigh_says : (t : Trail) (m : Mark) (r : Rule) (s : State) → Says t r s → Says t (m ∷ r) (weigh (truth t m) m s)
-weigh_says t m r s h = grind arith
-
 -- a rule is broken, pressing or quiet for what its marks are
 pub state_says : (t : Trail) (r : Rule) → Says t r (state t r)
 unfolding state
 state_says t [] = λ y i. absurd i
-state_says t (m ∷ r) = weigh_says t m r (state t r) (state_says t r)
+state_says t (m ∷ r) = grind (arith, state_says t r)
 
 -- a hold that is open
 pub open_some : (t : Trail) (g h : Mark) → if_open g (truth t g) ≡ Some h → (g ≡ h) × (settled t g.part ≡ None)

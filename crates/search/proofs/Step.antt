@@ -1,10 +1,16 @@
 -- A step keeps the invariant.
-use Rattle.std.proofs.Common.{◌≡◌, ℕ, suc, ◌+◌, ◌-◌, ◌*◌, ◌^◌, ◌<◌, ◌≤◌, true, List, [], ◌∷◌, length, Some, None, Option, subst, inl, inr, arith, pow_pos}
-use Rattle.parts.specs.Codes.{all_codes}
+use Rattle.std.proofs.Common.{◌≡◌, ℕ, [], ◌∷◌, length, inl, inr, arith, suc, ◌+◌, ◌-◌, ◌*◌, ◌^◌, ◌<◌, ◌≤◌, true, List, Some, None, Option, subst, pow_pos}
+use Rattle.std.proofs.lemmas.List.{length-replicate}
 use Rattle.parts.specs.Marks.{opposite_of}
-use Rattle.parts.specs.Rows.{row_marks}
 use Rattle.parts.specs.declared.Mark.{Mark}
 use Rattle.book.specs.Meaning.{Rule}
+use Rattle.search.specs.Trail.{Row, Trail, settled, row}
+use Rattle.search.specs.Machine.{named_holds, Bench, working, Machine, rule_at, Move, turn_on, force, settle, fit, ask, look, Outcome, bottom, stop, next_place, swept, pushed, turned, fitted, act, step}
+use Rattle.search.specs.Law.{Among, Choice, Obeys, Keeps, Lawful, shown}
+use Rattle.search.proofs.Rows.{Names, Within, true_names, enter_length, enter_stays, enter_comes, enter_from, empty_row, names_within, among_marks, marks_among}
+use Rattle.search.proofs.Invariant.{Ranged, Once, Follows, Kept, Why, Sound, worth, Tells, Inv}
+use Rattle.parts.specs.Codes.{all_codes}
+use Rattle.parts.specs.Rows.{row_marks}
 use Rattle.picker.specs.Meaning as pickers
 use Rattle.picker.specs.Meaning.{asks}
 use Rattle.shelf.specs.Meaning.{Shelved, put, written}
@@ -12,17 +18,38 @@ use Rattle.search.specs.declared.Kind.{Kind}
 use Rattle.search.specs.declared.Kind.TheVariants.{Held, Picked, Forced}
 use Rattle.search.specs.declared.Reason.{Reason}
 use Rattle.search.specs.declared.Reason.TheVariants.{Shelf}
-use Rattle.search.specs.Trail.{Trail, Row, settled, row}
-use Rattle.search.specs.Machine.{Bench, working, Machine, rule_at, Move, turn_on, force, settle, fit, ask, look, Outcome, bottom, stop, next_place, named_holds, swept, pushed, turned, fitted, act, step}
-use Rattle.search.specs.Law.{Among, Choice, Obeys, Keeps, Lawful, shown}
 use Rattle.search.proofs.Basics.{twice_opposite}
-use Rattle.search.proofs.Rows.{names_within, among_marks, marks_among}
-use Rattle.search.proofs.Invariant.{Ranged, Follows, Kept, Why, Sound, worth, Tells, Inv}
 use Rattle.search.proofs.Settled.{place_row, shown_settled, within, answer_some, answer_open}
 use Rattle.search.proofs.Turn.{top, top_falls, sound_length, Ends}
 use Rattle.search.proofs.Places.{Free, next_place_free, sound_move, after, after_new, after_old, after_rule, after_length}
-use Rattle.search.proofs.Named.{named_length, named_held, held_named}
 use Rattle.search.proofs.Look.{at_of, Looked, look_ok}
+
+-- The holds that a verdict names: a row of n codes, only holds, and each hold whose opposite is in the working rule.
+pub named_length : (n : ℕ) (c : Row) (hs : Rule) → length (named_holds n c hs) ≡ n
+unfolding named_holds
+named_length n c [] = length-replicate {A = ℕ} n 0
+named_length n c (x ∷ hs) = grind (arith, named_length n c hs, enter_length (named_holds n c hs) (x ∷ []))
+
+-- one hold is over the parts of the row
+one_within : (n : ℕ) (c : Row) (x : Mark) (hs : Rule) → Ranged n (x ∷ hs) → Within (named_holds n c hs) (x ∷ [])
+one_within n c x hs range y i = grind (arith, named_length n c hs, range x)
+
+-- each named mark is a hold
+pub named_held : (n : ℕ) (c : Row) (hs : Rule) → Ranged n hs → (h : Mark) → Names (named_holds n c hs) h → Among h hs
+unfolding named_holds
+named_held n c [] range h i = absurd (empty_row n h i)
+named_held n c (x ∷ hs) range h i =
+    grind (arith, enter_from (named_holds n c hs) (x ∷ []) h (one_within n c x hs range), named_held n c hs (λ y j. range y (inr j)) h)
+
+-- and a hold whose opposite is in the working rule is named
+pub held_named : (n : ℕ) (c : Row) (hs : Rule) → Ranged n hs → Once hs → (h : Mark) → Among h hs → Names c (opposite_of h) → Names (named_holds n c hs) h
+unfolding named_holds
+held_named n c [] range once h i j = absurd i
+held_named n c (x ∷ hs) range once h (inl q) j =
+    grind (arith, true_names c (opposite_of h), enter_comes (named_holds n c hs) (x ∷ []) h (one_within n c x hs range))
+held_named n c (x ∷ hs) range once h (inr i) j =
+    let rest = held_named n c hs (λ y k. range y (inr k)) (λ g k a b. once g k (inr a) (inr b)) h i j in
+    grind (arith, rest, enter_stays (named_holds n c hs) (x ∷ []) h (one_within n c x hs range), once h x)
 
 -- the worth of a trail stays below 2 ^ n
 pub top_most : (n : ℕ) (hs : Rule) (at : Reason → Option Rule) (t : Trail) → Sound n hs at t → top n t ≤ 2 ^ n

@@ -4,8 +4,7 @@ use Rattle.parts.specs.declared.refusals.Refusal.TheVariants.{AlreadyHeld, Budge
 use Rattle.search.specs.declared.Forgetting.TheVariants.{KeepAll, Size, Relevance, Bounded, Both}
 use Rattle.search.specs.declared.Told.TheVariants.{Fits, NoneFits, Spent}
 use Rattle.search.specs.Calls.{hold, release, run_for}
-use Rattle.search.specs.Table.{i, o, lowest}
-use Rattle.search.specs.History.{History, to, code_of, the_choice, the_named, lesson_at, done, said, codes, nothing, refused, ◌↝◌, benched, ranked, histories_tell}
+use Rattle.search.specs.History.{i, o, History, to, code_of, the_choice, the_named, lesson_at, done, said, codes, nothing, refused, ◌↝◌, benched, lowest, ranked, histories_tell}
 
 abbrev pub history_1 : History
 history_1 =

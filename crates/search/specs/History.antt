@@ -1,6 +1,7 @@
 -- A history of a session: calls and questions in their order, each with the reply that it got.
 use Rattle.std.specs.Prelude.{◌≡◌, ℕ, zero, suc, Bool, true, false, cond, List, [], ◌∷◌, map, replicate, Some, None, Ok, Err, Option, Result}
 use Rattle.parts.specs.declared.Mark.{Mark}
+use Rattle.parts.specs.declared.Side.TheVariants.{In, Out}
 use Rattle.parts.specs.declared.refusals.Refusal.{Refusal}
 use Rattle.parts.specs.Lists.{at_place}
 use Rattle.book.specs.Meaning.{Rule}
@@ -11,7 +12,13 @@ use Rattle.search.specs.declared.Told.{Told}
 use Rattle.search.specs.Trail.{Row}
 use Rattle.search.specs.Machine.{Bench, Machine}
 use Rattle.search.specs.Calls.{Call, hold, release, run_for, call, opened, reply_to, run_reply, settled_code, choice_row, named_row}
-use Rattle.search.specs.Table.{o}
+
+-- part p in, and part p out
+abbrev pub i : ℕ → Mark
+i p = record { part = p; side = In }
+
+abbrev pub o : ℕ → Mark
+o p = record { part = p; side = Out }
 
 -- a call; the settled code of a part; the choice; the named holds; what stands at a place
 pub data Ask : Type 0 where
@@ -64,7 +71,7 @@ heard b m (to c) = called b m c
 heard b m (code_of p) = heard_as (λ c. codes (c ∷ [])) (settled_code b.book.n m p)
 heard b m the_choice = heard_as codes (choice_row b.book.n m b.book.n)
 heard b m the_named = heard_as codes (named_row b.book.n m b.book.n)
-heard b m (lesson_at i) = stood (at_place m.shelf.rows i)
+heard b m (lesson_at place) = stood (at_place m.shelf.rows place)
 
 -- a question changes nothing
 abbrev pub after : Bench → Machine → Ask → Machine
@@ -72,11 +79,16 @@ after b m (to c) = call b c m
 after b m (code_of p) = m
 after b m the_choice = m
 after b m the_named = m
-after b m (lesson_at i) = m
+after b m (lesson_at place) = m
 
 unfoldable pub replies : Bench → Machine → List Line → List Heard
 replies b m [] = []
 replies b m (l ∷ ls) = heard b m l.ask ∷ replies b (after b m l.ask) ls
+
+-- the lowest open part, out
+unfoldable pub lowest : ℕ → Row → Mark
+lowest p [] = o p
+lowest p (c ∷ cs) = elim c [ zero ↦ o p | suc k ↦ lowest (suc p) cs ]
 
 -- the first open mark of a list
 abbrev pub is_open : Option ℕ → Bool

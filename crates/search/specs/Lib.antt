@@ -2,7 +2,6 @@ pub mod Trail
 pub mod Machine
 pub mod Calls
 pub mod Law
-pub mod Table
 pub mod History
 pub mod Histories
 pub mod Words

@@ -5,7 +5,6 @@ ghost use Rattle.std.specs.Prelude.{◌≡◌, length, Some};
 ghost use Rattle.search.specs.Machine.{reason_in};
 ghost use Rattle.search.specs.Words.{told_text};
 ghost use Rattle.search.specs.Law.{SearchKeepsItsPromises, CallsLeaveTheRest};
-ghost use Rattle.search.specs.Table.{table, CasesHold};
 ghost use Rattle.search.specs.Histories.{histories, HistoriesHold};
 
 use parts::Mark;
@@ -91,15 +90,8 @@ pub struct Report {
     pub turns: usize,
 }
 
-// How many worked cases there are, each of which gives what the table says.
-pub fn cases_stand() -> usize
-    ensures count { result ≡ length table }
-    ensures cases { CasesHold }
-{
-    11
-}
-
 // The law of the search: see SearchKeepsItsPromises in specs/Law.antt. It tells how many promises that has: lessons, verdict, turns, steps, told.
+#[tactic(auto, using(crate::proofs::Promises::search_keeps_its_promises, crate::proofs::Promises::calls_leave_the_rest))]
 pub fn search_stands() -> usize
     ensures count { result ≡ 5 }
     ensures law { SearchKeepsItsPromises }

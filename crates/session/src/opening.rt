@@ -16,6 +16,7 @@ use trail::Trail;
 
 impl<B: Book, P: Picker, S: Shelf> Session<B, P, S> {
     // Opens a session: every place is cleared, nothing is held or settled, and nothing counted.
+    #[tactic(auto, using(std::proofs::lemmas::Bool::Decides::nat_tests), unfolding(search::specs::Calls::opened))]
     pub fn open(
         book: B,
         picker: P,
@@ -74,6 +75,7 @@ fn in_range(forget: Forgetting) -> bool
 }
 
 // Empties every place.
+#[tactic(auto, using(crate::proofs::Clearing::front_none, crate::proofs::Clearing::front_more, crate::proofs::Clearing::front_all))]
 fn clear_all<S: Shelf>(shelf: &mut S)
     ensures { S.Shelf.meaning shelf.new ≡ emptied (S.Shelf.meaning shelf.old) }
 {

@@ -48,7 +48,7 @@ impl<'a> Sheet<'a> {
     ghost use Rattle.holds.specs.Holding.{holds_of};
 
     // Reads the sheet of a book's parts.
-    #[tactic(auto, using(crate::proofs::Accepted::reading_is_the_sheet))]
+    #[tactic(auto, using(std::proofs::lemmas::Bool::Decides::nat_tests, crate::proofs::Accepted::reading_is_the_sheet), unfolding(crate::specs::Reading::sheet_of))]
     pub fn read<B: Book>(text: &'a [u8], book: &B) -> Result<Sheet<'a>, Fault>
         ensures reply { told result ≡ sheet_of (B.meaning book.now).n text.now }
         ensures format { AcceptsTheSheet (B.meaning book.now).n text.now }
@@ -103,6 +103,7 @@ impl<'a> Sheet<'a> {
     }
 
     // Judges a sheet's end: a line that is not ended, or a missing part.
+    #[tactic(auto, using(std::proofs::lemmas::Bool::Decides::nat_tests, crate::proofs::Following::unended))]
     fn end(&self, at: usize, rest: &[u8], n: usize) -> Result<(), Fault>
         requires { cut_at 10 rest.now ≡ None }
         ensures { SaidBy (said_on n (at + length rest.now) (said_of self.now) (lines at rest.now)) result (said_of self.now) }

@@ -1,2 +1,1 @@
 mod Asked
-mod Written

@@ -15,6 +15,7 @@ use put::{Page, put_book};
 mod put;
 
 // Writes a book's text into the front of the buffer, and tells its length; a refusal leaves the buffer as it was.
+#[tactic(auto, using(std::proofs::lemmas::Bool::Decides::nat_tests), unfolding(grammar::specs::Writing::written_of))]
 pub fn write<B: Book>(book: &B, buffer: &mut [u8]) -> Result<usize, Refusal>
     ensures reply { result ≡ told (written_of (length buffer.old) (B.Book.meaning book.now)) }
     ensures back { IfOk result (λ len. ReadsBack (B.Book.meaning book.now) (take len buffer.new)) }
@@ -39,6 +40,7 @@ pub fn write<B: Book>(book: &B, buffer: &mut [u8]) -> Result<usize, Refusal>
 }
 
 // How many marks the rules have together; nothing where they are more than a text may have.
+#[tactic(auto, using(std::proofs::lemmas::List::at_drop_all, std::proofs::lemmas::Bool::Decides::nat_tests, crate::proofs::Asked::count_from, std::proofs::lemmas::Grind::common_steps))]
 pub fn count_marks<B: Book>(book: &B) -> Option<usize>
     ensures { result ≡ few (count_marks (B.Book.meaning book.now).rules) }
 {

@@ -1,41 +1,25 @@
-use Rattle.std.proofs.Common.{◌≤◌, length, ap, ◌∙◌, arith, rules}
+use Rattle.std.proofs.Common.{◌≡◌, ℕ, ◌≤◌, List, [], ◌++◌, length, Some, Ok, ap, ◌∙◌, arith}
+use Rattle.std.proofs.lemmas.Bool.Decides.{nat_tests}
 use Rattle.std.proofs.lemmas.List.{take_at}
+use Rattle.book.specs.Meaning.{Rules, count_marks}
 use Rattle.grammar.specs.Reading.{read_of}
+use Rattle.grammar.specs.Writing.{text_of, written_of}
 use Rattle.grammar.proofs.Back.{writing_reads_back}
-use Rattle.writing.proofs.Written.{many_rules, many_marks, page_short, page_long, page_copied}
+use Rattle.writing.specs.Over.{few}
 use Rattle.writing.proofs.write.Goals as goal
 
-pub returns-then-rules-gt-MOST_TEXT_RULES : goal.returns-then-rules-gt-MOST_TEXT_RULES
-returns-then-rules-gt-MOST_TEXT_RULES g c =
-    let e = many_rules (length c.args.buffer.now) (g.B.Book.meaning c.args.book.now) (omega arith) in
-    search rules
+-- the text that stands on the page is the book's, where no refusal applies
+copied : (size : ℕ) (b : Rules) (page text : List ℕ) → page ≡ [] → text ≡ page ++ text_of b → length text ≤ 60000 → length b.rules ≤ 4000
+    → (k : ℕ) → Some k ≡ few (count_marks b.rules) → length text ≤ size → written_of size b ≡ Ok text
+unfolding written_of
+copied size b page text empty put short rules k marks room = grind (arith, nat_tests)
 
-pub returns-in_default : goal.returns-in_default
-returns-in_default g c =
-    let e = many_marks (length c.args.buffer.now) (g.B.Book.meaning c.args.book.now) c.in_default.ensures in
-    search rules
-
-pub returns-in_default-put_book : goal.returns-in_default-put_book
-returns-in_default-put_book g c =
-    let e = page_short (length c.args.buffer.now) (g.B.Book.meaning c.args.book.now) c.new-page.ensures c.in_default-put_book.ensures in
-    search rules
-
-pub returns-then-text-buffer : goal.returns-then-text-buffer
-returns-then-text-buffer g c =
-    let e = page_long (length c.args.buffer.now) (g.B.Book.meaning c.args.book.now) c.new-page.ensures (c.as_bytes-text.ensures.value ∙ c.as_str.ensures.value ∙ c.in-Ok.ensures) c.if-text-buffer.true in
-    search rules
-
-pub returns : goal.returns
-returns g c =
+pub returns-clause-back : goal.returns-clause-back
+returns-clause-back g c = λ marks ends room.
     let text = c.as_bytes-text.result.now in
-    let buffer = c.args.buffer.now in
     let b = g.B.Book.meaning c.args.book.now in
+    let put = c.as_bytes-text.ensures.value ∙ c.as_str.ensures.value ∙ c.in-Ok.ensures in
     let short : length text ≤ 60000 = omega (arith, ap length c.as_bytes-text.ensures.value, c.as_str.ensures.fits) in
-    let e = page_copied (length buffer) b c.new-page.ensures (c.as_bytes-text.ensures.value ∙ c.as_str.ensures.value ∙ c.in-Ok.ensures) short (omega arith) _ c.in-Some.ensures (omega arith) in
-    record {
-      reply = search rules;
-      back = λ marks ends room.
-          ap (read_of marks ends) (take_at _ _ (length text) (ap length c.copy_from_slice.ensures.after) ∙ c.copy_from_slice.ensures.after)
-          ∙ writing_reads_back (length buffer) b text (g.B.Book.sound c.args.book.now) e marks ends room;
-      buffer = search rules;
-    }
+    let e = copied (length c.args.buffer.now) b _ text c.new-page.ensures put short (omega arith) _ c.in-Some.ensures (omega arith) in
+    ap (read_of marks ends) (take_at _ _ (length text) (ap length c.copy_from_slice.ensures.after) ∙ c.copy_from_slice.ensures.after)
+    ∙ writing_reads_back (length c.args.buffer.now) b text (g.B.Book.sound c.args.book.now) e marks ends room

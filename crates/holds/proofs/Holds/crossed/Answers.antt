@@ -4,7 +4,7 @@ use Rattle.parts.specs.declared.Mark.{Mark}
 use Rattle.search.specs.Machine.{if_crossed, reason_of}
 use Rattle.search.specs.Trail.{truth}
 use Rattle.trail.specs.Stacks.{trail_of}
-use Rattle.holds.proofs.Firsts.{first_found}
+use Rattle.holds.proofs.Held.{first_found}
 use Rattle.holds.proofs.Holds.crossed.Goals as goal
 
 pub returns : goal.returns

@@ -6,7 +6,7 @@ use Rattle.parts.specs.declared.Mark.{Mark}
 use Rattle.search.specs.Trail.{settled}
 use Rattle.trail.specs.Stacks.{trail_of}
 use Rattle.holds.specs.Holding.{holds_of}
-use Rattle.holds.proofs.Firsts.{first_open_found}
+use Rattle.holds.proofs.Held.{first_open_found}
 use Rattle.holds.proofs.Holds.first_open.Goals as goal
 
 pub returns : goal.returns

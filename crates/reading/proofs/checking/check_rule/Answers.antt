@@ -4,7 +4,7 @@ use Rattle.std.proofs.lemmas.List.{get_or-replicate}
 use Rattle.book.specs.Tables.{mark_from}
 use Rattle.grammar.specs.Numbers.{signed}
 use Rattle.grammar.specs.Reading.{rule_of, limit}
-use Rattle.grammar.proofs.Marks.{Taken, taken_field}
+use Rattle.grammar.proofs.Numbers.{Taken, taken_field}
 use Rattle.reading.specs.Pieces.{piece_of, fields_left}
 use Rattle.reading.proofs.RuleSteps.{rule_mark, shows_more, zero_bits}
 use Rattle.reading.proofs.checking.check_rule.Goals as goal

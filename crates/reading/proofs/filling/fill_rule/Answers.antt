@@ -1,9 +1,8 @@
 use Rattle.std.proofs.Common.{◌≡◌, ◌++◌, length, ap, arith, w16, w32, SFits, to_z, of_z, rules}
 use Rattle.reading.specs.Fills.{stored}
 use Rattle.reading.specs.Pieces.{fields_left}
-use Rattle.reading.proofs.Fronts.{front_more}
-use Rattle.reading.proofs.RuleSteps.{zero_bits, cast_same}
-use Rattle.reading.proofs.Stores.{stored_stop, stored_zero, stored_mark, bits_zero}
+use Rattle.reading.proofs.FillSteps.{front_more}
+use Rattle.reading.proofs.RuleSteps.{zero_bits, cast_same, stored_stop, stored_zero, stored_mark, bits_zero}
 use Rattle.reading.proofs.filling.fill_rule.Goals as goal
 
 pub returns-in_default-clause-front : goal.returns-in_default-clause-front

@@ -1,14 +1,8 @@
 use Rattle.std.proofs.Common.{length, sym, ◌∙◌, arith}
 use Rattle.std.proofs.lemmas.Result.{err_from_is_err_and}
 use Rattle.sheet.specs.Views.{said_of}
-use Rattle.sheet.proofs.Following.{too_long, begins, long, refused, goes_on}
+use Rattle.sheet.proofs.Following.{long, refused, goes_on}
 use Rattle.sheet.proofs.Sheet.read.Goals as goal
-
-pub returns-then-text-gt-MOST_SHEET_BYTES-clause-reply : goal.returns-then-text-gt-MOST_SHEET_BYTES-clause-reply
-returns-then-text-gt-MOST_SHEET_BYTES-clause-reply g c = grind (arith, too_long (g.B.Book.meaning c.args.book.now).n c.args.text.now)
-
-pub loop-line-init : goal.loop-line-init
-loop-line-init g c = grind (arith, begins (g.B.Book.meaning c.args.book.now).n c.args.text.now)
 
 pub returns-in_err-add-clause-reply : goal.returns-in_err-add-clause-reply
 returns-in_err-add-clause-reply g c =

@@ -1,8 +1,7 @@
 use Rattle.std.proofs.Common.{◌+◌, arith}
 use Rattle.std.proofs.lemmas.Result.{err_from_is_err_and}
 use Rattle.reading.specs.Pieces.{piece_of, all_lines, lines_left, text_end}
-use Rattle.reading.proofs.BookSteps.{on_rule, on_fault}
-use Rattle.reading.proofs.Counting.{head_counts}
+use Rattle.reading.proofs.Counting.{on_rule, on_fault, head_counts}
 use Rattle.reading.proofs.head.Head.check_lines.Goals as goal
 use Rattle.reading.proofs.head.Head.check_lines.Goals.{else-loop-rule-test, then-loop-rule-test+in-Some+in_ok-used+else-rule-rule-end}
 

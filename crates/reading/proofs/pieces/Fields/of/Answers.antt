@@ -2,8 +2,7 @@ use Rattle.std.proofs.Common.{rules, tests}
 use Rattle.std.proofs.lemmas.Iterator.{YieldsList-from_slice}
 use Rattle.std.proofs.lemmas.List.{take_rest}
 use Rattle.grammar.specs.Pieces.{blank}
-use Rattle.reading.proofs.Leading.{leading}
-use Rattle.reading.proofs.Runs.{blank_run}
+use Rattle.reading.proofs.Runs.{leading, blank_run}
 use Rattle.reading.proofs.pieces.Fields.of.Goals as goal
 
 pub returns : goal.returns

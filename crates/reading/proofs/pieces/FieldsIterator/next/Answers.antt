@@ -1,8 +1,7 @@
 use Rattle.std.proofs.Common.{◌≡◌, ◌<◌, ◌∷◌, length, ap, rules, tests, arith}
 use Rattle.std.proofs.lemmas.Iterator.{YieldsList-from_slice}
 use Rattle.reading.specs.Pieces.{inner, fields_left}
-use Rattle.reading.proofs.Leading.{leading}
-use Rattle.reading.proofs.Runs.{begun}
+use Rattle.reading.proofs.Runs.{leading, begun}
 use Rattle.reading.proofs.pieces.FieldsIterator.next.Goals as goal
 use Rattle.reading.proofs.pieces.FieldsIterator.next.Goals.{After-of}
 

@@ -2,8 +2,7 @@ use Rattle.std.proofs.Common.{◌≡◌, ◌+◌, ◌-◌, ◌<◌, length, drop
 use Rattle.std.proofs.lemmas.Iterator.{YieldsList-from_slice}
 use Rattle.grammar.specs.Pieces.{lines}
 use Rattle.reading.specs.Pieces.{inline}
-use Rattle.reading.proofs.Leading.{leading}
-use Rattle.reading.proofs.Runs.{next_lines, line_run, after_feed, after_last}
+use Rattle.reading.proofs.Runs.{leading, next_lines, line_run, after_feed, after_last}
 use Rattle.reading.proofs.pieces.Lines.next_line.Goals as goal
 use Rattle.reading.proofs.pieces.Lines.next_line.Goals.{in-empty, in-len1-up}
 
