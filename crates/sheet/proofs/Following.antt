@@ -7,7 +7,7 @@ use Rattle.std.specs.List.{prefix_len}
 use Rattle.grammar.specs.Pieces.{lines}
 use Rattle.reading.specs.Pieces.{inline}
 use Rattle.reading.proofs.Runs.{line_run}
-use Rattle.sheet.specs.Reading.{cut_at, Said, fault, line_of, said_by, said_on, sheet_of}
+use Rattle.sheet.specs.Reading.{cut_at, Said, fault, line_of, said_by, said_on}
 use Rattle.parts.specs.declared.refusals.Fault.{Fault}
 use Rattle.parts.specs.declared.refusals.Refusal.TheVariants.{MalformedSheet}
 

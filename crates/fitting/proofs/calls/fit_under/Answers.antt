@@ -21,5 +21,8 @@ returns-in_err-report-clause-answer g c =
     let b = bench_of g.B.Book.meaning g.P.Picker.meaning c.args.session.now in
     let m = machine_of g.B.Book.meaning g.S.Shelf.meaning c.args.session.now in
     let same = bench_same g.B.Book.meaning g.P.Picker.meaning c.args.session.now c.hold_all.new.session c.hold_all.ensures.kept in
-    let ran : c.run.result ≡ run_reply b (until b (holding c.args.holds.now) m).state c.args.budget = rw (← c.hold_all.ensures.after, ← same) c.run.ensures.answer in
-    rw (p.1, p.2) (unrun_reply b c.args.holds.now c.args.budget m c.args.row.now c.in_err-report.field-0.0 (sym c.in_ok-hold_all.was ∙ c.hold_all.ensures.answer) (sym c.in_err-report.was ∙ ran))
+    let ran : c.run.result ≡ run_reply b (until b (holding c.args.holds.now) m).state c.args.budget =
+    rw (← c.hold_all.ensures.after, ← same) c.run.ensures.answer in
+    rw (p.1, p.2)
+    (unrun_reply b c.args.holds.now c.args.budget m c.args.row.now c.in_err-report.field-0.0
+    (sym c.in_ok-hold_all.was ∙ c.hold_all.ensures.answer) (sym c.in_err-report.was ∙ ran))
