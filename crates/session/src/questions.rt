@@ -44,7 +44,6 @@ impl<B: Book, P: Picker, S: Shelf> Session<B, P, S> {
     }
 
     // Fills a row with the choice that a standing "fits" shows.
-    #[tactic(auto, using(crate::proofs::Looking::row_asked, search::proofs::Settled::length_row))]
     pub fn choice(&self, row: &mut [u8]) -> Result<(), Refusal>
         ensures answer { result ≡ done (choice_row (B.Book.meaning self.now.book).n (machine_of B.Book.meaning S.Shelf.meaning self.now) (length row.old)) }
         ensures after { row.new ≡ filled (choice_row (B.Book.meaning self.now.book).n (machine_of B.Book.meaning S.Shelf.meaning self.now) (length row.old)) row.old }

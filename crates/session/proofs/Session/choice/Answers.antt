@@ -1,4 +1,4 @@
-use Rattle.std.proofs.Common.{◌≡◌, ℕ, ◌≤◌, length, take, sym, refl}
+use Rattle.std.proofs.Common.{◌≡◌, ℕ, ◌≤◌, length, take, sym, rules, refl}
 use Rattle.search.specs.Trail.{Trail, Row, row}
 use Rattle.search.proofs.Settled.{length_row}
 use Rattle.trail.specs.Stacks.{trail_of}
@@ -18,4 +18,13 @@ pub show-requires : goal.show-requires
 show-requires g c = elim c.match-self.branch [
   | in-Fits w ↦ rw w.codes-is (front_long c.n-n.result w.row.result.now (trail_of c.args.self.now.trail) (rw c.n-n.ensures (g.B.Book.sound c.args.self.now.book).few) w.row.ensures)
   | in_default w ↦ rw w.codes-is tt
+]
+
+pub returns-clause-after : goal.returns-clause-after
+returns-clause-after g c = elim c.match-self.branch [
+  | in-Fits w ↦
+      let few = (g.B.Book.sound c.args.self.now.book).few in
+      let front = row_asked _ _ (trail_of c.args.self.now.trail) _ few c.n-n.ensures w.row.ensures in
+      search rules
+  | in_default w ↦ search rules
 ]
