@@ -107,16 +107,24 @@ fn state(marks: &[Mark], row: &[u8]) -> State {
     free.map_or(State::Broken, State::Pressing)
 }
 
-fn scan<'a>(rules: impl Iterator<Item = (usize, &'a [Mark])>, row: &[u8]) -> Found {
-    let mut pressing = None;
-    for (i, marks) in rules {
+fn scan<'a>(mut rules: impl Iterator<Item = (usize, &'a [Mark])>, row: &[u8]) -> Found {
+    while let Some((i, marks)) = rules.next() {
         match state(marks, row) {
             State::Broken => return Found::Broken(i),
-            State::Pressing(mark) => pressing = pressing.or(Some((i, mark))),
+            // Only a broken rule would come before this one.
+            State::Pressing(mark) => {
+                return first_broken(rules, row).map_or(Found::Pressing(i, mark), Found::Broken);
+            }
             State::Quiet => {}
         }
     }
-    pressing.map_or(Found::Quiet, |(i, mark)| Found::Pressing(i, mark))
+    Found::Quiet
+}
+
+fn first_broken<'a>(mut rules: impl Iterator<Item = (usize, &'a [Mark])>, row: &[u8]) -> Option<usize> {
+    rules
+        .find(|(_, marks)| marks.iter().all(|mark| row[usize::from(mark.part)] == 3 - mark.side))
+        .map(|(i, _)| i)
 }
 
 pub struct Search {
@@ -168,12 +176,18 @@ impl Search {
         if let Found::Broken(rule) = in_book {
             return self.turn(Reason::Book(rule));
         }
-        let on_shelf = scan((0..PLACES).filter_map(|i| Some((i, self.shelf.lesson(i)?))), &self.row);
-        match (in_book, on_shelf) {
-            (_, Found::Broken(place)) => return self.turn(Reason::Shelf(place)),
-            (Found::Pressing(rule, mark), _) => self.settle(mark, Kind::Forced(Reason::Book(rule))),
-            (_, Found::Pressing(place, mark)) => self.settle(mark, Kind::Forced(Reason::Shelf(place))),
-            _ => return self.hold_or_pick(),
+        let mut lessons = (0..PLACES).filter_map(|i| Some((i, self.shelf.lesson(i)?)));
+        if let Found::Pressing(rule, mark) = in_book {
+            match first_broken(&mut lessons, &self.row) {
+                Some(place) => return self.turn(Reason::Shelf(place)),
+                None => self.settle(mark, Kind::Forced(Reason::Book(rule))),
+            }
+            return None;
+        }
+        match scan(lessons, &self.row) {
+            Found::Broken(place) => return self.turn(Reason::Shelf(place)),
+            Found::Pressing(place, mark) => self.settle(mark, Kind::Forced(Reason::Shelf(place))),
+            Found::Quiet => return self.hold_or_pick(),
         }
         None
     }

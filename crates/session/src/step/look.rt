@@ -28,7 +28,10 @@ impl<B: Book, P: Picker, S: Shelf> Session<B, P, S> {
         match scan_under(&BookRules(&self.book), &self.trail) {
             Found::Broken(rule) => Move::TurnOn(Reason::Book(rule)),
             // Only a broken lesson comes before a pressing rule of the book.
-            Found::Pressing(rule, mark) => match broken_under(&ShelfRules(&self.shelf), &self.trail) {
+            Found::Pressing(rule, mark) => match broken_under(
+                &ShelfRules(&self.shelf),
+                &self.trail,
+            ) {
                 Some(place) => Move::TurnOn(Reason::Shelf(place)),
                 None => Move::Force(mark, Reason::Book(rule)),
             },
