@@ -51,7 +51,7 @@ impl BayBook {
     }
 
     // Which bay a rule is of, and which of the bay's rules it is.
-    #[tactic(auto, using(crate::proofs::Walks::place_nth, crate::proofs::Walks::total_drop, crate::proofs::Walks::rule_drop, crate::proofs::Walks::this_bay, crate::proofs::Walks::later_bay))]
+    #[tactic(auto, using(std::proofs::lemmas::Grind::common_steps, crate::proofs::Walks::rule_drop, crate::proofs::Walks::this_bay, crate::proofs::Walks::later_bay))]
     fn spot(&self, rule: usize) -> Option<Spot>
         ensures { Spotted self.now.widths.items rule result }
     {
@@ -92,7 +92,7 @@ impl Book for BayBook {
         self.rules
     }
 
-    #[tactic(auto, using(crate::proofs::Walks::first_marks, crate::proofs::Walks::pair_marks))]
+    #[tactic(auto, using(crate::proofs::Walks::made, crate::proofs::Walks::two_at))]
     fn marks(&self, rule: usize) -> Option<usize> {
         match self.spot(rule)? {
             Spot::SomeIn(bay) => Some(bay.width),
@@ -109,7 +109,7 @@ impl Book for BayBook {
 }
 
 // How many parts and rules the bays have together; nothing where their widths make no book.
-#[tactic(auto, using(crate::proofs::Walks::total_drop, crate::proofs::Walks::count_drop, crate::proofs::Walks::fit_drop, crate::specs::Fit::pairs_few))]
+#[tactic(auto, using(std::proofs::lemmas::Grind::common_steps, crate::specs::Fit::pairs_few))]
 fn counts(widths: &[u16]) -> Option<(usize, usize)>
     ensures { result ≡ (if fit_bays widths.now then Some (total widths.now, rule_count widths.now) else None) }
 {

@@ -39,7 +39,7 @@ impl Bay {
     }
 
     // A mark of the rule that some part of the bay is in.
-    #[tactic(auto, using(crate::proofs::Walks::some_at, crate::proofs::Walks::some_past))]
+    #[tactic(auto, using(crate::proofs::Walks::made))]
     pub fn some_in(self, place: usize) -> Option<Mark>
         ensures { result ≡ at_place (some_in self.from self.width) place }
     {
@@ -53,7 +53,7 @@ impl Bay {
     }
 
     // The two parts of a pair, by its number among the bay's pairs, from 0.
-    #[tactic(auto, using(crate::proofs::Walks::pair_here, crate::proofs::Walks::pair_later))]
+    #[tactic(auto, using(std::proofs::lemmas::Bool::Decides::nat_tests, crate::proofs::Walks::pair_turn))]
     pub fn pair_at(self, number: usize) -> Option<Pair>
         ensures { option_map (λ p. not_both p.low p.high) result ≡ slice_get (pairs self.from self.width) number }
     {

@@ -5,9 +5,9 @@ use Rattle.std.specs.List.{slice_get}
 use Rattle.std.specs.List.Sorted.{IsNonDecreasing}
 use Rattle.std.proofs.lemmas.List.{at_drop_more, get_or-take, length-map, take-map, drop-map}
 use Rattle.std.proofs.lemmas.Option.{slice_get-map, slice_get_past, unwrap_or-slice_get}
-use Rattle.std.proofs.lemmas.Bool.{and_parts, and_left, and_right, leb-true, le-leb, lt-leb}
+use Rattle.std.proofs.lemmas.Bool.Decides.{nat_tests}
 use Rattle.parts.specs.declared.Mark.{Mark}
-use Rattle.parts.specs.Lists.{at_place, then_at}
+use Rattle.parts.specs.Lists.{at_place}
 use Rattle.book.specs.Meaning.{Rule, mark_of, sound_rule, sound_rules}
 use Rattle.book.specs.Tables.{mark_from, cut, laid_rules, rising}
 use Rattle.book.specs.Laying.{Laid, laid_from, length_cut}
@@ -20,17 +20,11 @@ pub record Step (limit from to : ℕ) (after : List ℕ) : Type 0 where
   pub more : rising limit to after ≡ true
 
 rising_low : (limit from : ℕ) (es : List ℕ) → rising limit from es ≡ true → from ≤ limit
-rising_low limit from [] h = leb-true from limit h
-rising_low limit from (e ∷ es) h =
-    let p = and_parts _ _ h in
-    let a : from ≤ e = leb-true from e p.0 in
-    let b : e ≤ limit = rising_low limit e es p.1 in
-    omega arith
+rising_low limit from [] h = grind (arith, nat_tests)
+rising_low limit from (e ∷ es) h = grind (arith, nat_tests, rising_low limit e es)
 
 rising_step : (limit from e : ℕ) (es : List ℕ) → rising limit from (e ∷ es) ≡ true → Step limit from e es
-rising_step limit from e es h =
-    let p = and_parts _ _ h in
-    record { rises = leb-true from e p.0; within = rising_low limit e es p.1; more = p.1 }
+rising_step limit from e es h = grind (arith, nat_tests, rising_low limit e es)
 
 pub rising_more : (limit from : ℕ) (es : List ℕ) (i : ℕ) → i < length es → rising limit from (drop i es) ≡ true → Step limit from (get_or es i 0) (drop (i + 1) es)
 rising_more limit from es i l h = rising_step limit from (get_or es i 0) (drop (i + 1) es) (sym (at_drop_more (rising limit from) es i 0 l) ∙ h)
@@ -42,9 +36,7 @@ rules_drop n from numbers es i l = at_drop_more (λ xs. sound_rules n (cut from 
 -- ends that do not fall rise to the limit exactly if the last is within it
 rises_if_last : (limit from : ℕ) (es : List ℕ) → ((i j : ℕ) → i ≤ j → j < suc (length es) → get_or (from ∷ es) i 0 ≤ get_or (from ∷ es) j 0) → rising limit from es ≡ nat_le (get_or (from ∷ es) (length es) 0) limit
 rises_if_last limit from [] s = refl
-rises_if_last limit from (e ∷ es) s =
-    ap (λ b. b && rising limit e es) (le-leb from e (s 0 1 (omega arith) (omega arith)))
-    ∙ rises_if_last limit e es (λ i j h l. s (suc i) (suc j) (omega arith) (omega arith))
+rises_if_last limit from (e ∷ es) s = grind (arith, nat_tests, s 0 1, rises_if_last limit e es (λ i j h l. s (suc i) (suc j) (omega arith) (omega arith)))
 
 from_zero : (es : List ℕ) → IsNonDecreasing es → (i j : ℕ) → i ≤ j → j < suc (length es) → get_or (0 ∷ es) i 0 ≤ get_or (0 ∷ es) j 0
 from_zero es s zero j h l = omega arith
@@ -53,19 +45,17 @@ from_zero es s (suc i) (suc j) h l = s i j 0 (omega arith) (omega arith)
 
 last_or_zero : (es : List ℕ) → get_or (0 ∷ es) (length es) 0 ≡ unwrap_or (slice_get es (length es - 1)) 0
 last_or_zero [] = refl
-last_or_zero (e ∷ es) = let k : length (e ∷ es) - 1 ≡ length es = omega arith in rw k (sym (unwrap_or-slice_get (e ∷ es) (length es) 0))
+last_or_zero (e ∷ es) = grind (arith, unwrap_or-slice_get (e ∷ es) (length es) 0)
 
 pub sorted_rises : (limit : ℕ) (es : List ℕ) → IsNonDecreasing es → rising limit 0 es ≡ nat_le (unwrap_or (slice_get es (length es - 1)) 0) limit
 sorted_rises limit es s = rises_if_last limit 0 es (from_zero es s) ∙ ap (λ e. nat_le e limit) (last_or_zero es)
 
 -- ends that fall somewhere do not rise
 pub falls : (limit from : ℕ) (es : List ℕ) (k : ℕ) → k + 1 < length es → get_or es (k + 1) 0 < get_or es k 0 → rising limit from es ≡ false
-falls limit from [] k l h = absurd (omega arith)
-falls limit from (e ∷ []) k l h = absurd (omega arith)
-falls limit from (e ∷ d ∷ es) zero l h = and_right _ _ (and_left _ _ (lt-leb e d h))
-falls limit from (e ∷ d ∷ es) (suc k) l h =
-    let n : suc k + 1 ≡ suc (k + 1) = omega arith in
-    and_right _ _ (falls limit e (d ∷ es) k (omega arith) (rw n at h))
+falls limit from [] k l h = grind arith
+falls limit from (e ∷ []) k l h = grind arith
+falls limit from (e ∷ d ∷ es) zero l h = grind (arith, nat_tests)
+falls limit from (e ∷ d ∷ es) (suc k) l h = grind (arith, nat_tests, falls limit e (d ∷ es) k)
 
 -- the marks of a rule, counted from 1, begin and end at these places of all marks
 record Spans (rules : List Rule) (ms : List Mark) (rule from to : ℕ) : Type 0 where
@@ -75,13 +65,9 @@ record Spans (rules : List Rule) (ms : List Mark) (rule from to : ℕ) : Type 0 
 
 -- the rule at k, counted from 0
 spans_at : (limit from : ℕ) (es : List ℕ) (ms : List Mark) (k : ℕ) → limit ≤ length ms → rising limit from es ≡ true → k < length es → Spans (cut from es ms) ms (suc k) (get_or (from ∷ es) k 0) (get_or es k 0)
-spans_at limit from [] ms k l h i = absurd (omega arith)
-spans_at limit from (e ∷ es) ms zero l h i =
-    let s = rising_step limit from e es h in
-    record { rises = s.rises; within = omega arith; cuts = refl }
-spans_at limit from (e ∷ es) ms (suc k) l h i =
-    let t = spans_at limit e es ms k l (rising_step limit from e es h).more (omega arith) in
-    record { rises = t.rises; within = t.within; cuts = t.cuts }
+spans_at limit from [] ms k l h i = grind arith
+spans_at limit from (e ∷ es) ms zero l h i = grind (arith, rising_step limit from e es)
+spans_at limit from (e ∷ es) ms (suc k) l h i = grind (arith, rising_step limit from e es, spans_at limit e es ms k)
 
 -- what a book keeps
 pub kept : (b : TextBook) → Laid b.n b.rules (vec_items b.tables.marks) (vec_items b.tables.ends)
@@ -98,18 +84,12 @@ pub record Cut (b : TextBook) (rule from to : ℕ) : Type 0 where
   pub cuts : at_place (laid_rules b.n b.rules (vec_items b.tables.marks) (vec_items b.tables.ends)).rules rule ≡ Some (map mark_from (take (to - from) (drop from (vec_items b.tables.marks))))
 
 pub cut_at : (b : TextBook) (rule : ℕ) → (rule ≡ 0 → ⊥) → rule ≤ b.rules → Cut b rule (get_or (0 ∷ vec_items b.tables.ends) (rule - 1) 0) (get_or (0 ∷ vec_items b.tables.ends) rule 0)
-cut_at b zero h l = absurd (h refl)
+cut_at b zero h l = grind arith
 cut_at b (suc k) h l =
     let marks = vec_items b.tables.marks in
     let ends = vec_items b.tables.ends in
-    let e : suc k - 1 ≡ k = omega arith in
-    let r = (kept b).rises in
-    let n = (kept b).rules_ended in
-    let s = spans_at (min 16000 (length marks)) 0 (take b.rules ends) (map mark_from marks) k (simp length-map (omega arith)) r (simp length-take (omega arith)) in
-    let within = simp length-map at s.within in
-    let f = used_end b.rules k ends (omega arith) in
-    let t = used_end b.rules (suc k) ends l in
-    rw (e, ← f, ← t) (record { rises = s.rises; within = within; cuts = s.cuts ∙ ap Some (simp (drop-map, take-map)) })
+    let s = spans_at (min 16000 (length marks)) 0 (take b.rules ends) (map mark_from marks) k in
+    grind (arith, s, kept b, length-map marks mark_from, length-take b.rules ends, used_end b.rules k ends, used_end b.rules (suc k) ends l, drop-map, take-map)
 
 pub rules_counted : (b : TextBook) → length (laid_rules b.n b.rules (vec_items b.tables.marks) (vec_items b.tables.ends)).rules ≡ b.rules
 rules_counted b = let n = (kept b).rules_ended in simp (length_cut, length-take) (omega arith)
@@ -117,14 +97,9 @@ rules_counted b = let n = (kept b).rules_ended in simp (length_cut, length-take)
 -- a number that no rule of the book has
 pub no_rule : (b : TextBook) (rule : ℕ) → (1 ≤ rule → b.rules < rule) → at_place (laid_rules b.n b.rules (vec_items b.tables.marks) (vec_items b.tables.ends)).rules rule ≡ None
 no_rule b zero h = refl
-no_rule b (suc k) h =
-    let l = h (omega arith) in
-    let n = (kept b).rules_ended in
-    slice_get_past _ k (simp (length_cut, length-take) (omega arith))
+no_rule b (suc k) h = grind (arith, rules_counted b, slice_get_past (laid_rules b.n b.rules (vec_items b.tables.marks) (vec_items b.tables.ends)).rules k)
 
 -- a mark of a rule by its place
 pub mark_at : (rules : List Rule) (rule place : ℕ) (numbers : List ℤ) → at_place rules rule ≡ Some (map mark_from numbers) → (place ≡ 0 → ⊥) → mark_of rules rule place ≡ option_map mark_from (slice_get numbers (place - 1))
-mark_at rules rule zero numbers h p = absurd (p refl)
-mark_at rules rule (suc k) numbers h p =
-    let e : suc k - 1 ≡ k = omega arith in
-    rw e (ap (λ o. then_at o (λ r. at_place r (suc k))) h ∙ slice_get-map mark_from numbers k)
+mark_at rules rule zero numbers h p = grind arith
+mark_at rules rule (suc k) numbers h p = grind (arith, slice_get-map mark_from numbers k)

@@ -1,25 +1,20 @@
 -- Tables filled from a list of rules, whatever stands after them: a book may be laid over them, and it is these rules.
-use Rattle.std.proofs.Common.{◌≡◌, ℕ, zero, suc, ◌+◌, ◌-◌, ◌≤◌, min, true, List, [], ◌∷◌, ◌++◌, map, length, take, drop, ℤ, refl, ap, ◌∙◌, arith, length-append}
+use Rattle.std.proofs.Common.{◌≡◌, ℕ, suc, ◌+◌, ◌-◌, ◌≤◌, min, true, List, [], ◌∷◌, ◌++◌, map, length, ℤ, refl, ap, ◌∙◌, arith, length-append}
 use Rattle.std.proofs.lemmas.List.{append_assoc, map-append, length-map, take_at, drop_at}
-use Rattle.std.proofs.lemmas.Bool.{and_parts, and_from, leb-true, le-leb}
+use Rattle.std.proofs.lemmas.Bool.Decides.{nat_tests}
+use Rattle.std.proofs.lemmas.Bool.{and_from, le-leb}
 use Rattle.parts.specs.declared.Mark.{Mark}
 use Rattle.parts.specs.declared.Side.{Side}
-use Rattle.parts.specs.declared.Side.TheVariants.{In, Out}
 use Rattle.book.specs.Meaning.{Rule, count_marks, sound_rule, sound_rules}
 use Rattle.book.specs.Tables.{mark_from, on_side, number_from, cut, laid_rules, rising, lays, mark_table, end_table}
 
 -- a mark comes back from its number, unless it is part 0 out
 mark_back : (s : Side) (p : ℕ) → 1 ≤ p → mark_from (on_side s p) ≡ record { part = p; side = s }
-mark_back In p h = refl
-mark_back Out zero h = absurd (omega arith)
-mark_back Out (suc p) h = refl
+mark_back s p h = grind arith
 
 rule_back : (n : ℕ) (r : Rule) → sound_rule n r ≡ true → map mark_from (map number_from r) ≡ r
 rule_back n [] h = refl
-rule_back n (m ∷ r) h =
-    let p = and_parts _ _ h in
-    let a = mark_back m.side m.part (leb-true 1 m.part (and_parts _ _ p.0).0) in
-    ap (λ x. x ∷ map mark_from (map number_from r)) a ∙ ap (λ t. m ∷ t) (rule_back n r (and_parts _ _ p.1).1)
+rule_back n (m ∷ r) h = grind (arith, nat_tests, mark_back m.side m.part, rule_back n r)
 
 pub length_ends : (from : ℕ) (rs : List Rule) → length (end_table from rs) ≡ length rs
 length_ends from [] = refl
@@ -37,14 +32,19 @@ ends_rise limit from (r ∷ rs) h = and_from _ _ (le-leb from (from + length r) 
 cut_back : (n from : ℕ) (before : List Mark) (rs : List Rule) (marks' : List ℤ) → length before ≡ from → sound_rules n rs ≡ true → cut from (end_table from rs) (before ++ map mark_from (mark_table rs ++ marks')) ≡ rs
 cut_back n from before [] marks' l h = refl
 cut_back n from before (r ∷ rs) marks' l h =
-    let p = and_parts _ _ h in
     let rest = map mark_from (mark_table rs ++ marks') in
-    let e : map mark_from ((map number_from r ++ mark_table rs) ++ marks') ≡ r ++ rest =
-    ap (map mark_from) (append_assoc (map number_from r) (mark_table rs) marks') ∙ map-append mark_from (map number_from r) (mark_table rs ++ marks') ∙ ap (λ x. x ++ rest) (rule_back n r p.0) in
-    let first : take (from + length r - from) (drop from (before ++ (r ++ rest))) ≡ r = ap (take (from + length r - from)) (drop_at before (r ++ rest) from l) ∙ take_at r rest (from + length r - from) (omega arith) in
-    let more = cut_back n (from + length r) (before ++ r) rs marks' (length-append before r ∙ ap (λ k. k + length r) l) p.1 in
-    let s = append_assoc before r rest in
-    cc
+    grind (
+      arith,
+      nat_tests,
+      rule_back n r,
+      append_assoc (map number_from r) (mark_table rs) marks',
+      map-append mark_from (map number_from r) (mark_table rs ++ marks'),
+      drop_at before (r ++ rest) from l,
+      take_at r rest (from + length r - from),
+      length-append before r,
+      append_assoc before r rest,
+      cut_back n (from + length r) (before ++ r) rs marks',
+    )
 
 pub laid_filled : (n : ℕ) (rs : List Rule) (marks' : List ℤ) (ends' : List ℕ) → sound_rules n rs ≡ true → laid_rules n (length rs) (mark_table rs ++ marks') (end_table 0 rs ++ ends') ≡ record { n = n; rules = rs }
 laid_filled n rs marks' ends' h = rw (take_at (end_table 0 rs) ends' (length rs) (length_ends 0 rs), cut_back n 0 [] rs marks' refl h)
@@ -54,8 +54,4 @@ lays_filled n rs marks' ends' some few rules_few marks_few h =
     let limit = min 16000 (length (mark_table rs ++ marks')) in
     let room : count_marks rs ≤ limit = simp (length-append, length_marks) (omega arith) in
     let ended : length rs ≤ length (end_table 0 rs ++ ends') = simp (length-append, length_ends) (omega arith) in
-    and_from _ _
-    (and_from _ _ (and_from _ _ (le-leb 1 n some) (le-leb n 120 few)) (and_from _ _ (le-leb (length rs) 4000 rules_few) (le-leb _ _ ended)))
-    (and_from _ _
-    (ap (rising limit 0) (take_at (end_table 0 rs) ends' (length rs) (length_ends 0 rs)) ∙ ends_rise limit 0 rs (omega arith))
-    (ap (λ b. sound_rules n b.rules) (laid_filled n rs marks' ends' h) ∙ h))
+    grind (arith, nat_tests, ends_rise limit 0 rs, laid_filled n rs marks' ends' h, take_at (end_table 0 rs) ends' (length rs) (length_ends 0 rs))

@@ -1,15 +1,14 @@
 -- A text is accepted as a book exactly if the format allows it for that book and the tables take it.
-use Rattle.std.proofs.Common.{◌≡◌, ℕ, ◌≤◌, List, [], ◌∷◌, Some, None, Ok, codes, decimal, Option, arith, ltb, ◌⊎◌, length, Err, Result, refl, inl, inr}
+use Rattle.std.proofs.Common.{◌≡◌, ℕ, ◌≤◌, List, [], ◌∷◌, Some, Ok, codes, decimal, Option, arith, ◌⊎◌, length, Err, Result, refl, inl, inr}
 use Rattle.std.proofs.lemmas.Slice.Eq.{bytes_eq-Decides}
 use Rattle.std.proofs.lemmas.Bool.Decides.{nat_tests}
 use Rattle.grammar.specs.declared.Size.{Size}
 use Rattle.grammar.specs.Numbers.{number}
 use Rattle.grammar.specs.Pieces.{Piece, lines, counted}
 use Rattle.grammar.specs.Reading.{sized, head_of, rules_of, book_of, from_head, read_of}
-use Rattle.grammar.proofs.Lines.{bytes_of, past, refused, lines_are, lines_of, lines_inline}
+use Rattle.grammar.proofs.Lines.{bytes_of, lines_are, lines_of, lines_inline}
 use Rattle.grammar.proofs.Numbers.{number_decimal, decimal_number}
 use Rattle.std.specs.List.{AllByRecursion}
-use Rattle.std.proofs.lemmas.Bool.{le-ltb}
 use Rattle.parts.specs.declared.refusals.Fault.{Fault}
 use Rattle.book.specs.Meaning.{Rules}
 use Rattle.grammar.specs.declared.Room.{Room}
@@ -116,10 +115,9 @@ pub reading_is_the_format : ReadingIsTheFormat
 unfolding read_of
 reading_is_the_format marks ends text = record {
   only = λ b e.
-      let (over, e') = past (ltb 60000 (length text)) _ _ _ (refused _ b) e in
       let of_lines = lines_of 0 text in
-      let (f, layout) = lines_head marks ends (length text) (lines 0 text) b (lines_inline _ text of_lines) e' in
-      let given = f.given in (
+      let on : from_head marks ends (length text) (lines 0 text) ≡ Ok b = grind (arith, nat_tests) in
+      let (f, layout) = lines_head marks ends (length text) (lines 0 text) b (lines_inline _ text of_lines) on in (
         record {
           each = bytes_of (lines 0 text);
           of_lines = of_lines;
@@ -128,18 +126,10 @@ reading_is_the_format marks ends text = record {
           some = f.some;
           few = f.few;
           rules_few = f.rules_few;
-          marks_few = omega arith;
-          rules_sound = given.sound;
+          marks_few = omega (arith, f.given);
+          rules_sound = f.given.sound;
         },
-        (omega arith, omega arith),
+        grind (arith, f.given),
       );
-  each = λ b f t.
-      let fits : Fits marks ends b = record {
-        some = f.some;
-        few = f.few;
-        rules_few = f.rules_few;
-        given = record { sound = f.rules_sound; fits = omega arith; all = omega arith; lines = t.1 };
-      } in
-      let read = head_lines marks ends (length text) (lines 0 text) b fits (rw (lines_are 0 f.each text f.of_lines) f.layout) in
-      rw (le-ltb 60000 (length text) f.short) read;
+  each = λ b f t. grind (arith, nat_tests, head_lines marks ends (length text) (lines 0 text) b, lines_are 0 f.each text f.of_lines, f);
 }

@@ -8,14 +8,12 @@ use Rattle.std.proofs.lemmas.List.{append-nil, append_assoc}
 use Rattle.std.proofs.lemmas.Bool.Decides.{nat_tests}
 use Rattle.parts.specs.declared.Side.{Side}
 use Rattle.parts.specs.declared.Side.TheVariants.{In, Out}
-use Rattle.parts.specs.declared.refusals.Refusal.TheVariants.{NotWritable}
 use Rattle.book.specs.Meaning.{Rule, Rules, Sound, sound_rule, sound_rules}
 use Rattle.grammar.specs.Law.{WritingReadsBack}
 use Rattle.grammar.specs.Writing.{mark_text, mark_field, rule_line, text_of, too_large, written_of}
 use Rattle.grammar.specs.Format.{Blank, Inline, Field, Fields, Rest, Lines, Format}
 use Rattle.grammar.specs.Format.Rest.{ends, reads}
 use Rattle.grammar.specs.Format.Layout.{begins}
-use Rattle.grammar.proofs.Lines.{past, refused}
 use Rattle.grammar.proofs.Fields.{fields_after}
 use Rattle.grammar.proofs.Numbers.{decimal_digits, sound_parts}
 use Rattle.grammar.proofs.RuleLines.{rule_words}
@@ -24,9 +22,7 @@ use Rattle.grammar.proofs.Accepted.{head_words, reading_is_the_format}
 -- a line has its blanks and its fields alone
 pub fields_inline : (ws : List (List ℕ)) (line : List ℕ) → Fields ws line → AllByRecursion Inline line
 fields_inline [] line h = All-weaker Blank Inline (λ b k e. omega arith) line h
-fields_inline (w ∷ ws) line h =
-    rw h.2 (All-append Inline h.0 (w ++ h.1) (All-weaker Blank Inline (λ b k e. omega arith) h.0 h.3)
-    (All-append Inline w h.1 (All-weaker _ Inline (λ b k. k.1) w h.4.1) (fields_inline ws h.1 h.6)))
+fields_inline (w ∷ ws) line h = grind (arith, All-append Inline h.0 (w ++ h.1), All-weaker Blank Inline (λ b k e. omega arith) h.0 h.3, All-append Inline w h.1, All-weaker _ Inline (λ b k. k.1) w h.4.1, fields_inline ws h.1 h.6)
 
 -- a field and a space before the others, and the last field
 spaced : (w : List ℕ) (ws : List (List ℕ)) (rest : List ℕ) → Field w → Fields ws rest → Fields (w ∷ ws) (w ++ 32 ∷ rest)
@@ -59,9 +55,8 @@ head_body n m = codes "p" ++ 32 ∷ (codes "cnf" ++ 32 ∷ (decimal n ++ 32 ∷ 
 rule_fields : (n : ℕ) (r : Rule) → n < 100000 → sound_rule n r ≡ true → Fields (rule_words r) (rule_body r)
 rule_fields n [] few h = alone (codes "0") (visible (codes "0") (omega arith) (omega arith))
 rule_fields n (m ∷ r) few h =
-    let (lo, hi, new, sound) = sound_parts n m r h in
     let line : rule_body (m ∷ r) ≡ mark_field m ++ 32 ∷ rule_body r = simp append_assoc in
-    rw line (spaced (mark_field m) (rule_words r) (rule_body r) (text_is_field m.side m.part (omega arith)) (rule_fields n r few sound))
+    grind (arith, line, sound_parts n m r h, text_is_field m.side m.part, spaced (mark_field m) (rule_words r) (rule_body r), rule_fields n r)
 
 head_fields : (n m : ℕ) → n < 100000 → m < 100000 → Fields (head_words n m) (head_body n m)
 head_fields n m h k =
@@ -73,8 +68,8 @@ head_fields n m h k =
 rules_lines : (n : ℕ) (rs : List Rule) → n < 100000 → sound_rules n rs ≡ true → Lines (map rule_body rs) (flat_map rule_line rs) × Rest rs (map rule_body rs)
 rules_lines n [] few h = (refl, ends)
 rules_lines n (r ∷ rs) few h =
-    let body = rule_fields n r few (grind arith) in
     let (ls, rest) = rules_lines n rs few (grind arith) in
+    let body = rule_fields n r few (grind arith) in
     ((fields_inline (rule_words r) (rule_body r) body, inl (flat_map rule_line rs, simp append_assoc, ls)), reads body rest)
 
 -- What is written of a book is a text that the format allows for it.
@@ -93,7 +88,7 @@ text_format buffer b sound h =
       short = grind (arith, nat_tests);
       some = sound.some;
       few = sound.few;
-      rules_few = rules_few;
+      rules_few = grind (arith, nat_tests);
       marks_few = grind (arith, nat_tests);
       rules_sound = sound.rules_sound;
     }
@@ -102,6 +97,4 @@ text_format buffer b sound h =
 pub writing_reads_back : WritingReadsBack
 unfolding written_of
 writing_reads_back buffer b text sound e marks limits takes =
-    let (small, is) = past (too_large buffer b) _ _ _ (refused NotWritable text) e in
-    let same : text_of b ≡ text = cc in
-    rw (← same) ((reading_is_the_format marks limits (text_of b)).each b (text_format buffer b sound small) takes)
+    grind (arith, text_format buffer b sound, (reading_is_the_format marks limits text).each b)

@@ -1,8 +1,8 @@
 -- The fields of a line are those that the format speaks of, and so are the fields that count.
-use Rattle.std.proofs.Common.{◌≡◌, ℕ, ◌+◌, true, false, eqb, List, [], ◌∷◌, ◌++◌, length, get_or, ◌≢◌, sym, refl, ap, ◌∙◌, inl, inr, arith}
+use Rattle.std.proofs.Common.{◌≡◌, ℕ, ◌+◌, true, false, List, [], ◌∷◌, ◌++◌, length, get_or, ◌≢◌, refl, ap, inl, inr, arith}
 use Rattle.std.specs.List.{AllByRecursion}
 use Rattle.std.proofs.lemmas.List.{append-nil}
-use Rattle.std.proofs.lemmas.Bool.{eqb-true, cond_both}
+use Rattle.std.proofs.lemmas.Bool.{cond_both}
 use Rattle.std.proofs.lemmas.Bool.Decides.{nat_tests}
 use Rattle.grammar.specs.Pieces.{Piece, grown, blank, goes_on, fields, counted}
 use Rattle.grammar.specs.Format.{Blank, Inline, Field, Parts, Fields, Skipped}
@@ -24,14 +24,12 @@ fields_field p (b ∷ []) rest h parts = grind (arith, nat_tests, h.1.0.0, stops
 fields_field p (b ∷ c ∷ w) rest h parts = grind (arith, nat_tests, h.1.0.0, h.1.1.0.0, fields_field (p + 1) (c ∷ w) rest (λ e. cc, h.1.1) parts)
 
 pub fields_none : (p : ℕ) (line : List ℕ) → AllByRecursion Blank line → fields p line ≡ []
-fields_none p line h = ap (fields p) (sym (append-nil line)) ∙ fields_blank p line [] h
+fields_none p line h = grind (arith, append-nil line, fields_blank p line [] h)
 
 -- a line of these fields has just these fields
 pub fields_are : (p : ℕ) (ws : List (List ℕ)) (line : List ℕ) → Fields ws line → bytes_of (fields p line) ≡ ws
 fields_are p [] line h = ap bytes_of (fields_none p line h)
-fields_are p (w ∷ ws) line h =
-    let q = p + length h.0 in
-    rw (h.2, fields_blank p h.0 (w ++ h.1) h.3, fields_field q w h.1 h.4 h.5, fields_are (q + length w) ws h.1 h.6)
+fields_are p (w ∷ ws) line h = grind (arith, h.2, fields_blank p h.0 (w ++ h.1) h.3, fields_field (p + length h.0) w h.1 h.4 h.5, fields_are (p + length h.0 + length w) ws h.1 h.6)
 
 -- one blank more before the fields
 pub fields_after : (b : ℕ) (ws : List (List ℕ)) (line : List ℕ) → Blank b → Fields ws line → Fields ws (b ∷ line)
@@ -81,17 +79,14 @@ counts (w ∷ ws) line h = h
 -- each line is one of its fields that count
 pub counted_of : (line : List ℕ) → AllByRecursion Inline line → Counts (bytes_of (counted line)) line
 counted_of [] h = inr tt
-counted_of (b ∷ bs) h =
-    cond_both (eqb b 99) _ _ (λ ps. Counts (bytes_of ps) (b ∷ bs)) (λ e. inl (eqb-true b 99 e)) (λ _. counts _ (b ∷ bs) (fields_of 0 (b ∷ bs) h))
+counted_of (b ∷ bs) h = grind (arith, nat_tests, counts (bytes_of (fields 0 (b ∷ bs))) (b ∷ bs) (fields_of 0 (b ∷ bs) h))
 
 -- a line whose first field does not begin with c has just these fields that count
 pub counted_are : (w : List ℕ) (ws : List (List ℕ)) (line : List ℕ) → (get_or w 0 0 ≡ 99 → ⊥) → Fields (w ∷ ws) line → bytes_of (counted line) ≡ w ∷ ws
 counted_are w ws [] n h = fields_are 0 (w ∷ ws) [] h
-counted_are w ws (b ∷ bs) n h =
-    cond_both (eqb b 99) _ _ (λ ps. bytes_of ps ≡ w ∷ ws) (λ e. absurd (n (by w h.0 h.4.0 h.2 h.3 (eqb-true b 99 e))))
-    (λ _. fields_are 0 (w ∷ ws) (b ∷ bs) h)
+counted_are w ws (b ∷ bs) n h = grind (arith, nat_tests, fields_are 0 (w ∷ ws) (b ∷ bs) h, by w h.0 h.4.0 h.2 h.3 n)
   where
-    by : (w before : List ℕ) → w ≢ [] → b ∷ bs ≡ before ++ (w ++ h.1) → AllByRecursion Blank before → b ≡ 99 → get_or w 0 0 ≡ 99
-    by [] [] some e a is = absurd (some refl)
-    by (c ∷ w) [] some e a is = cc
-    by w (d ∷ before) some e a is = grind arith
+    by : (v before : List ℕ) → v ≢ [] → b ∷ bs ≡ before ++ (v ++ h.1) → AllByRecursion Blank before → (get_or v 0 0 ≡ 99 → ⊥) → b ≢ 99
+    by [] [] some e a n = absurd (some refl)
+    by (c ∷ v) [] some e a n = grind arith
+    by v (d ∷ before) some e a n = grind arith

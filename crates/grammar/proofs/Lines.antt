@@ -38,15 +38,11 @@ lines_last p (b ∷ c ∷ l) h some = grind (arith, nat_tests, lines_last (p + 1
 -- a text of these lines has just these lines
 pub lines_are : (p : ℕ) (ls : List (List ℕ)) (text : List ℕ) → Lines ls text → bytes_of (lines p text) ≡ ls
 lines_are p [] text h = rw h
-lines_are p (l ∷ ls) text h =
-    elim h.1 [
-      | inl g ↦ rw (g.1, lines_feed p l g.0 h.0, lines_are (p + length l + 1) ls g.0 g.2)
-      | inr g ↦ rw (g.0, lines_last p l h.0 g.2, g.1)
-    ]
+lines_are p (l ∷ ls) text h = grind (arith, h.1, lines_feed p l, lines_last p l, lines_are (p + length l + 1) ls)
 
 grows : (b p : ℕ) (bs : List ℕ) (ps : List Piece) → Inline b → Lines (bytes_of ps) bs → Lines (bytes_of (grown b p ps)) (b ∷ bs)
 grows b p bs [] i h = ((i, tt), inr (cc, refl, λ e. cc))
-grows b p bs (q ∷ ps) i h = ((i, h.0), elim h.1 [ inl g ↦ inl (g.0, cc, g.2) | inr g ↦ inr (cc, g.1, λ e. cc) ])
+grows b p bs (q ∷ ps) i h = grind (arith, i, h)
 
 -- each text is one of its lines
 pub lines_of : (p : ℕ) (text : List ℕ) → Lines (bytes_of (lines p text)) text
@@ -58,4 +54,4 @@ lines_of p (b ∷ bs) =
 
 pub lines_inline : (ls : List (List ℕ)) (text : List ℕ) → Lines ls text → AllByRecursion (AllByRecursion Inline) ls
 lines_inline [] text h = tt
-lines_inline (l ∷ ls) text h = (h.0, elim h.1 [ inl g ↦ lines_inline ls g.0 g.2 | inr g ↦ rw g.1 tt ])
+lines_inline (l ∷ ls) text h = grind (arith, lines_inline ls)

@@ -1,5 +1,5 @@
 -- Which fields are numbers, and what each is worth: just the decimal writing of numbers below 100,000, and of marks.
-use Rattle.std.proofs.Common.{◌≡◌, ℕ, zero, suc, ◌+◌, ◌-◌, ◌*◌, ◌^◌, ◌<◌, ◌≤◌, List, [], ◌∷◌, length, get_or, ℤ, pos, negsuc, nat_abs, Some, codes, decimal, sym, refl, ap, ◌∙◌, arith, rules, true, false, ◌++◌, None, Ok, Option}
+use Rattle.std.proofs.Common.{◌≡◌, ℕ, suc, ◌+◌, ◌-◌, ◌*◌, ◌^◌, ◌<◌, ◌≤◌, List, [], ◌∷◌, length, get_or, ℤ, pos, negsuc, nat_abs, Some, codes, decimal, refl, arith, rules, true, false, ◌++◌, None, Ok, Option}
 use Rattle.std.specs.Option.{option_map}
 use Rattle.std.specs.Int.{IsInRange as Within}
 use Rattle.std.specs.List.{AllByRecursion}
@@ -38,7 +38,7 @@ abbrev Plain : List ℕ → Type 0
 Plain ds = AllByRecursion (Within 48 57) ds × (0 < length ds) × (length ds ≤ 5) × (get_or ds 0 0 ≡ 48 → length ds ≡ 1)
 
 number_are : (ds : List ℕ) → Plain ds → number ds ≡ Some (read_on 0 ds)
-number_are [] h = absurd (omega (arith, h.1))
+number_are [] h = grind arith
 number_are (c ∷ []) h = grind (arith, nat_tests)
 number_are (c ∷ d ∷ cs) h = grind (arith, nat_tests, digits_are 0 (c ∷ d ∷ cs))
 
@@ -51,21 +51,19 @@ pub decimal_zero : decimal 0 ≡ codes "0"
 decimal_zero = decimal_digit 0 (omega arith)
 
 first : (v : ℕ) → v < 100000 → get_or (decimal v) 0 0 ≡ 48 → length (decimal v) ≡ 1
-first zero h e = ap length decimal_zero
-first (suc v) h e = omega (arith, first_decimal (suc v) (omega arith) (omega arith))
+first v h e = grind (arith, decimal_zero, first_decimal v)
 
 -- each number below 100,000 is read from its decimal writing
 pub number_decimal : (v : ℕ) → v < 100000 → number (decimal v) ≡ Some v
 number_decimal v h =
     let fits : v < 2 ^ 64 = omega arith in
-    number_are (decimal v) (digits_decimal own v fits, decimal_nonempty v fits, length-decimal-le 5 v (omega arith) h fits, first v h) ∙ ap Some (digits_value-decimal own v fits)
+    grind (arith, number_are (decimal v), digits_decimal own v fits, decimal_nonempty v fits, length-decimal-le 5 v (omega arith) h fits, first v h, digits_value-decimal own v fits)
 
 -- and from nothing else
 pub decimal_number : (w : List ℕ) (v : ℕ) → number w ≡ Some v → (w ≡ decimal v) × (v < 100000)
 decimal_number w v e =
     let p = number_of w v e in
-    let small = digits_value_short own w 5 p.0.0 p.0.2 in
-    (sym (decimal-digits_value own w p.0.0 p.0.1 p.0.3 (omega arith)) ∙ ap decimal p.1, omega arith)
+    grind (arith, p, digits_value_short own w 5 p.0.0 p.0.2, decimal-digits_value own w p.0.0 p.0.1 p.0.3)
 
 pub decimal_digits : (v : ℕ) → v < 100000 → AllByRecursion (Within 48 57) (decimal v)
 decimal_digits v h = digits_decimal own v (omega arith)
@@ -129,7 +127,4 @@ module _ (room : Room) (place : Place) (seen : Rule) where
 
   pub taken_field : (at : ℕ) (o : Option ℤ) (z : ℤ) → field_at room place seen at o ≡ Ok z → (o ≡ Some z) × Taken room place seen z
   taken_field at None z e = cc
-  taken_field at (Some y) z e = (
-    grind arith,
-    record { within = grind (arith, nat_tests); fresh = grind arith; line = grind (arith, nat_tests); fits = grind (arith, nat_tests) },
-  )
+  taken_field at (Some y) z e = (grind arith, record { within = grind (arith, nat_tests); fresh = grind arith; line = grind (arith, nat_tests); fits = grind (arith, nat_tests) })

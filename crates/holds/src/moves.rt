@@ -41,6 +41,7 @@ impl Holds {
 
     // Holds a mark whose part is from 1 to 120 and not held, and tells whether it was such.
     // Stays a bool, as the insertion into a set: there is no value to tell beside it.
+    #[tactic(auto, using(book::proofs::Rules::sound_push, crate::proofs::Held::room))]
     pub fn add(&mut self, mark: Mark) -> bool
         ensures answer { result ≡ can_hold (holds_of self.old) mark }
         ensures after { holds_of self.new ≡ (if result then holds_of self.old ++ (mark ∷ []) else holds_of self.old) }

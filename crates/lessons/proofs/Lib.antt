@@ -1,3 +1,1 @@
-pub mod Ranges
-pub mod Rounds
-pub mod Sweeping
+pub mod Lessons

@@ -36,6 +36,7 @@ pub fn lets_go(forget: Forgetting, marks: usize, free: usize) -> bool
 
 // Whether the lesson at a place goes: the rule lets it go, and it is no reason on the trail.
 // Stays shelf and trail side by side: the sweep writes to the shelf that the others only ask.
+#[tactic(auto, unfolding(search::specs::Machine::goes))]
 fn goes<S: Shelf>(shelf: &S, forget: Forgetting, trail: &Trail, place: usize) -> bool
     ensures { result ≡ lets forget (trail_of trail.now) place (row_of (S.Shelf.meaning shelf.now) place) }
 {
@@ -46,15 +47,16 @@ fn goes<S: Shelf>(shelf: &S, forget: Forgetting, trail: &Trail, place: usize) ->
 }
 
 // Clears each lesson that the rule lets go and that is no reason on the trail.
+#[tactic(auto, using(crate::proofs::Lessons::all_kept, crate::proofs::Lessons::all_swept), unfolding(search::specs::Machine::swept))]
 pub fn sweep<S: Shelf>(shelf: &mut S, forget: Forgetting, trail: &Trail)
     ensures { S.Shelf.meaning shelf.new ≡ swept forget (trail_of trail.now) (S.Shelf.meaning shelf.old) }
 {
     if forget == Forgetting::KeepAll {
         return;
     }
-    for place in 1..=shelf.places() {
-        if goes(shelf, forget, trail, place) {
-            let _ = shelf.clear(place);
+    for before in 0..shelf.places() {
+        if goes(shelf, forget, trail, before + 1) {
+            let _ = shelf.clear(before + 1);
         }
     }
 }

@@ -41,6 +41,7 @@ fn first_free(places: usize, last: usize, trail: &Trail) -> Option<usize>
 }
 
 // The place to write: the next empty one; else the next that is no reason on the trail; nothing where all are.
+#[tactic(auto, using(crate::proofs::Lessons::found_around))]
 pub fn next_place<S: Shelf>(shelf: &S, last: usize, trail: &Trail) -> Option<usize>
     ensures place { unwrap_or result 0 ≡ next_place (S.Shelf.meaning shelf.now).rows last (trail_of trail.now) }
     ensures some { IfSome result (λ place. 1 ≤ place) }

@@ -48,7 +48,7 @@ impl Picker for Ranked {
         self.list.len()
     }
 
-    #[tactic(auto, using(crate::proofs::Ranks::row_within, crate::proofs::Ranks::first_picked))]
+    #[tactic(auto, using(crate::specs::RankedSound::ranks_within, std::proofs::lemmas::Bool::Decides::nat_tests))]
     fn pick(&self, row: &[u8]) -> Option<Mark> {
         if !is_row(row, self.list.len()) {
             return None;

@@ -1,7 +1,6 @@
 -- The lines that count are those with a field, and the others change nothing.
-use Rattle.std.proofs.Common.{◌≡◌, ℕ, ◌+◌, ◌<◌, ◌≤◌, true, false, not, List, [], ◌∷◌, filter, Err, Result, refl, ⊎_elim, arith, ◌-◌, length, Ok}
+use Rattle.std.proofs.Common.{◌≡◌, ℕ, ◌+◌, ◌<◌, ◌≤◌, true, not, List, [], ◌∷◌, filter, Err, Result, refl, arith, ◌-◌, length, Ok}
 use Rattle.std.proofs.lemmas.Bool.Decides.{nat_tests}
-use Rattle.std.proofs.lemmas.Bool.{cases_Bool}
 use Rattle.parts.specs.declared.refusals.Fault.{Fault}
 use Rattle.parts.specs.declared.refusals.Refusal.TheVariants.{NoHead, RuleCount}
 use Rattle.book.specs.Meaning.{Rule}
@@ -14,15 +13,6 @@ use Rattle.grammar.proofs.RuleLines.{place_of, read_rule, rules_rule}
 use Rattle.reading.specs.Pieces.{counts}
 use Rattle.reading.specs.Checks.{count_of, passed}
 
-module _ (l : Piece) (ls : List Piece) where
-  -- a line with a field is the first that counts
-  pub counts_some : (f : Piece) (fs : List Piece) → counted l.bytes ≡ f ∷ fs → filter counts (l ∷ ls) ≡ l ∷ filter counts ls
-  counts_some f fs e = rw e refl
-
-  -- a line without one is passed over
-  pub counts_none : counted l.bytes ≡ [] → filter counts (l ∷ ls) ≡ filter counts ls
-  counts_none e = rw e refl
-
 -- a line that counts has a first field
 pub some_field : (l : Piece) → counts l ≡ true → (f : Piece) × (fs : List Piece) × (counted l.bytes ≡ f ∷ fs)
 some_field l = by (counted l.bytes)
@@ -34,10 +24,7 @@ some_field l = by (counted l.bytes)
 -- the first of the lines that count does
 pub head_counts : (ls : List Piece) (l : Piece) (more : List Piece) → filter counts ls ≡ l ∷ more → counts l ≡ true
 head_counts [] l more e = cc
-head_counts (k ∷ ls) l more e =
-    ⊎_elim (λ (h : counts k ≡ true). let is : k ∷ filter counts ls ≡ l ∷ more = rw h at e in let same : k ≡ l = cc in rw (← same) h)
-    (λ (h : counts k ≡ false). head_counts ls l more (rw h at e))
-    (cases_Bool (counts k))
+head_counts (k ∷ ls) l more e = grind (arith, head_counts ls l more)
 
 module _ (room : Room) (end m : ℕ) where
   -- the same rules are read where the lines that do not count are left out
@@ -50,8 +37,8 @@ module _ (room : Room) (end m : ℕ) where
 
       by : (fs : List Piece) → counted l.bytes ≡ fs → ((done used : ℕ) → rules_of room end m done used (filter counts ls) ≡ rules_of room end m done used ls)
           → rules_of room end m done used (filter counts (l ∷ ls)) ≡ rules_of room end m done used (l ∷ ls)
-      by [] e same = grind (arith, counts_none l ls e, same done used)
-      by (f ∷ fs) e same = rw (counts_some l ls f fs e) (grind (arith, rule same (rule_of room (place_of done used l) [] (f ∷ fs))))
+      by [] e same = grind (arith, same done used)
+      by (f ∷ fs) e same = let first : filter counts (l ∷ ls) ≡ l ∷ filter counts ls = rw e refl in rw first (grind (arith, rule same (rule_of room (place_of done used l) [] (f ∷ fs))))
 
   module _ (done used : ℕ) (l : Piece) (ls : List Piece) (f : Piece) (fs : List Piece) (e : counted l.bytes ≡ f ∷ fs) where
     -- a line after the last rule
@@ -94,16 +81,16 @@ counted_rule (Err d) k e = cc
 counted_fault : (x : Result Rule Fault) (d : Fault) → Err d ≡ count_of x → x ≡ Err d
 counted_fault x d e = grind arith
 
--- the rules from this one on, of m rules
-module _ (room : Room) (end m rule used : ℕ) (lines : List Piece) (low : 1 ≤ rule) (high : rule ≤ m) where
+-- the rules after `done` of m rules
+module _ (room : Room) (end m done used : ℕ) (lines : List Piece) (high : done < m) where
   module _ (l : Piece) (ls : List Piece) (e : lines ≡ l ∷ ls) where
     abbrev pub this_rule : Result Rule Fault
-    this_rule = rule_of room (record { rule = rule; used = used; from = l.at; to = l.at + length l.bytes }) [] (counted l.bytes)
+    this_rule = rule_of room (place_of done used l) [] (counted l.bytes)
 
     -- the line reads as a rule of k marks
-    pub on_rule : (k : ℕ) → Ok k ≡ count_of this_rule → passed (rules_of room end m (rule - 1) used lines) ≡ passed (rules_of room end m rule (used + k) ls)
-    on_rule k is = let (r, x, n) = counted_rule this_rule k is in grind (arith, rules_rule room end m (rule - 1) used l ls r (omega arith), passed_after r)
+    pub on_rule : (k : ℕ) → Ok k ≡ count_of this_rule → passed (rules_of room end m done used lines) ≡ passed (rules_of room end m (done + 1) (used + k) ls)
+    on_rule k is = let (r, x, n) = counted_rule this_rule k is in grind (arith, rules_rule room end m done used l ls r high, passed_after r)
 
     -- or has a fault
-    pub on_fault : counts l ≡ true → (x : Fault) → Err x ≡ count_of this_rule → passed (rules_of room end m (rule - 1) used lines) ≡ Err x
-    on_fault c x is = let (f, fs, some) = some_field l c in grind (arith, line_fault room end m (rule - 1) used l ls f fs some (omega arith) x, counted_fault this_rule x is)
+    pub on_fault : counts l ≡ true → (x : Fault) → Err x ≡ count_of this_rule → passed (rules_of room end m done used lines) ≡ Err x
+    on_fault c x is = let (f, fs, some) = some_field l c in grind (arith, line_fault room end m done used l ls f fs some high x, counted_fault this_rule x is)

@@ -1,5 +1,5 @@
 -- The second pass, line by line.
-use Rattle.std.proofs.Common.{◌≡◌, ℕ, ◌+◌, ◌<◌, ◌≤◌, List, [], ◌∷◌, ◌++◌, length, take, drop, set, refl, ◌∙◌, arith, true, map, ℤ, nat_abs, Ok, sym, ap, inl, inr}
+use Rattle.std.proofs.Common.{◌≡◌, ℕ, ◌+◌, ◌≤◌, List, [], ◌∷◌, ◌++◌, length, take, drop, set, ◌∙◌, arith, true, map, ℤ, nat_abs, Ok, sym, ap, inl, inr}
 use Rattle.std.proofs.lemmas.List.{append-nil, append_assoc, length-set, length-take-le, take-append-drop, take_more_set, drop-set-lt, drop-drop, length-append, length-map, nil_from_length}
 use Rattle.reading.specs.Fills.{Front, filled, stored}
 use Rattle.std.specs.List.{AllByRecursion}
@@ -20,18 +20,12 @@ use Rattle.reading.proofs.Counting.{some_field, rules_counting}
 module _ {X : Type 0} (before all : List X) where
   -- nothing is written yet
   pub front_none : length all ≤ length before → Front before all all before 0
-  front_none h = record { long = refl; room = omega arith; front = refl; rest = refl }
+  front_none h = grind arith
 
   -- one entry more
   pub front_more : (left table : List X) (k : ℕ) (x : X) → Front before all (x ∷ left) table k → Front before all left (set table k x) (k + 1)
   front_more left table k x f =
-      let inside : k < length table = omega (arith, f.room, f.long) in
-      record {
-        long = length-set table k x ∙ f.long;
-        room = omega (arith, f.room);
-        front = rw (take_more_set table k x inside, append_assoc) f.front;
-        rest = rw (drop-set-lt (k + 1) table k x (omega arith), ← drop-drop 1 k table, f.rest) (drop-drop 1 k before);
-      }
+      grind (arith, length-set table k x, take_more_set table k x, append_assoc (take k table) (x ∷ []) left, drop-set-lt (k + 1) table k x, drop-drop 1 k table, drop-drop 1 k before, f)
 
   -- all is written
   pub front_all : (table : List X) (k : ℕ) → Front before all [] table k → table ≡ all ++ drop (length all) before
@@ -127,7 +121,7 @@ module _ {room : Room} {end m : ℕ} {rs : List Rule} {marks₀ : List ℤ} {end
     )
 
     pub none_lines : lines ≡ [] → All
-    none_lines e = fills_all (grind (arith, f.reads))
+    none_lines e = fills_all (grind arith)
 
     pub none_ends : length ends₀ ≤ done → All
     none_ends h = fills_all (nil_from_length f.left (omega (arith, f.in_ends.room, length_ends used f.left)))

@@ -135,7 +135,8 @@ impl<'a> Head<'a> {
         // Stays a for: the lines that are left go along with the total, and are what is told.
         let mut lines = self.rules;
         let mut used = 0;
-        for rule in 1..=self.size.m {
+        for done in 0..self.size.m {
+            let rule = done + 1;
             let Some(line) = lines.next() else {
                 return Err(fault(Refusal::RuleCount, self.rules.end(), rule));
             };

@@ -1,5 +1,5 @@
 -- The lines of the parts that a row names, one by one.
-use Rattle.std.proofs.Common.{◌≡◌, ℕ, zero, suc, ◌+◌, ◌<◌, List, [], ◌∷◌, ◌++◌, length, map, drop, get_or, append_assoc, sym, ap, ◌∙◌, arith}
+use Rattle.std.proofs.Common.{◌≡◌, ℕ, zero, suc, ◌+◌, ◌<◌, List, [], ◌∷◌, ◌++◌, length, map, drop, get_or, append_assoc, arith}
 use Rattle.std.proofs.lemmas.Grind.{common_steps}
 use Rattle.sheet.specs.declared.Name.{Name}
 use Rattle.sheet.specs.Views.{name_of}
@@ -15,7 +15,4 @@ next_name (x ∷ names) (suc i) d h = grind (arith, common_steps, next_name name
 pub one_more : (word row : List ℕ) (names : List Name) (i code : ℕ) (name : Name) (done all : List ℕ) → i < length names → code ≡ get_or row i 0 → name ≡ get_or names i name
     → done ++ parts_text word row i (drop i (map name_of names)) ≡ all
     → (done ++ part_text word (i + 1) code name.bytes.now) ++ parts_text word row (i + 1) (drop (i + 1) (map name_of names)) ≡ all
-one_more word row names i code name done all h c e so_far =
-    append_assoc done _ _
-    ∙ ap (λ l. done ++ l) (ap (λ k. part_text word (i + 1) k name.bytes.now ++ parts_text word row (i + 1) (drop (i + 1) (map name_of names))) c ∙ sym (ap (parts_text word row i) (next_name names i name h ∙ ap (λ (x : Name). name_of x ∷ drop (i + 1) (map name_of names)) (sym e))))
-    ∙ so_far
+one_more word row names i code name done all h c e so_far = grind (arith, append_assoc done (part_text word (i + 1) code name.bytes.now) (parts_text word row (i + 1) (drop (i + 1) (map name_of names))), next_name names i name h)

@@ -35,26 +35,19 @@ pub record Fresh (m : Machine) : Type 0 where
   pub verdict : m.verdict ≡ working
 
 module _ (b : Bench) where
-  one_held : (m : Machine) (h : Mark) (r : Rule) → sound_rule b.book.n (m.holds ++ h ∷ r) ≡ true → refuses b m (hold h.part (code_of h.side)) ≡ None
-  unfolding refuses
+  one_held : (m : Machine) (h : Mark) (r : Rule) → sound_rule b.book.n (m.holds ++ h ∷ r) ≡ true
+      → (refuses b m (hold h.part (code_of h.side)) ≡ None) × (call b (hold h.part (code_of h.side)) m ≡ restarted m (m.holds ++ h ∷ []))
+  unfolding refuses call accepted
   one_held m h r s = grind (arith, nat_tests, unnamed b.book.n m.holds h r s)
-
-  called : (m : Machine) (h : Mark) (r : Rule) → sound_rule b.book.n (m.holds ++ h ∷ r) ≡ true → call b (hold h.part (code_of h.side)) m ≡ restarted m (m.holds ++ h ∷ [])
-  unfolding call accepted
-  called m h r s = let e = one_held m h r s in grind arith
-
-  again : (m : Machine) (h : Mark) (r : Rule) → sound_rule b.book.n (m.holds ++ h ∷ r) ≡ true → let m' = restarted m (m.holds ++ h ∷ []) in Fresh m' × (sound_rule b.book.n (m'.holds ++ r) ≡ true)
-  unfolding restarted
-  again m h r s = (record { steps = refl; verdict = refl }, rw (append_assoc m.holds (h ∷ []) r) s)
 
   may_run : (m : Machine) → Fresh m → refuses b m (run_for 1000000) ≡ None
   unfolding refuses
   may_run m f = grind (arith, nat_tests)
 
   pub unstopped : (hs : Rule) (m : Machine) → sound_rule b.book.n (m.holds ++ hs) ≡ true → Fresh m → (until b (holding hs ++ run_for 1000000 ∷ []) m).stopped ≡ None
-  unfolding until
-  unstopped [] m s f = rw (may_run m f) refl
-  unstopped (h ∷ hs) m s f = let t = again m h hs s in rw (one_held m h hs s, called m h hs s) (unstopped hs (restarted m (m.holds ++ h ∷ [])) t.1 t.0)
+  unfolding until restarted
+  unstopped [] m s f = grind (arith, may_run m f)
+  unstopped (h ∷ hs) m s f = grind (arith, one_held m h hs s, append_assoc m.holds (h ∷ []) hs, unstopped hs (restarted m (m.holds ++ h ∷ [])))
 
 -- a trial that was not stopped has a report
 pub reports : (n : ℕ) (u : Until) (old : Row) → u.stopped ≡ None → length old ≡ n → (r : Report) × (trial_reply n u old ≡ Ok r)

@@ -41,6 +41,7 @@ pub enum Found {
 }
 
 // The first broken rule of the list under a trail, else the first pressing one.
+#[tactic(auto, using(search::proofs::Settled::length_row))]
 pub fn scan_under<R: FewParts>(list: &R, trail: &Trail) -> Found
     ensures { result ≡ scan_of (row_of 120 (trail_of trail.now)) 1 (R.RuleList.listed list.now).rules }
 {
@@ -48,6 +49,7 @@ pub fn scan_under<R: FewParts>(list: &R, trail: &Trail) -> Found
 }
 
 // The first broken rule of the list under a trail; nothing where there is none.
+#[tactic(auto, using(search::proofs::Settled::length_row))]
 pub fn broken_under<R: FewParts>(list: &R, trail: &Trail) -> Option<usize>
     ensures { result ≡ broken_in (scan_of (row_of 120 (trail_of trail.now)) 1 (R.RuleList.listed list.now).rules) }
 {
@@ -55,6 +57,7 @@ pub fn broken_under<R: FewParts>(list: &R, trail: &Trail) -> Option<usize>
 }
 
 // The first broken rule of the list under a settled row, else the first pressing one.
+#[tactic(auto, using(crate::proofs::Scans::part_within, crate::proofs::Scans::steps))]
 pub(crate) fn scan<R: RuleList>(list: &R, row: &[u8]) -> Found
     requires { (R.RuleList.listed list.now).n ≤ length row.now }
     ensures { result ≡ scan_of row.now 1 (R.RuleList.listed list.now).rules }
@@ -95,6 +98,7 @@ pub(crate) fn scan<R: RuleList>(list: &R, row: &[u8]) -> Found
 }
 
 // The first broken rule after so many of the list under a settled row.
+#[tactic(auto, using(crate::proofs::Scans::part_within, crate::proofs::Scans::mark_step, crate::proofs::Scans::marks_end, crate::proofs::Scans::broken_step))]
 fn first_broken<R: RuleList>(list: &R, row: &[u8], from: usize) -> Option<usize>
     requires { (R.RuleList.listed list.now).n ≤ length row.now }
     ensures { result ≡ broken_in (scan_of row.now (from + 1) (drop from (R.RuleList.listed list.now).rules)) }
@@ -109,7 +113,8 @@ fn first_broken<R: RuleList>(list: &R, row: &[u8], from: usize) -> Option<usize>
                 continue 'rules;
             };
             let code = row[mark.part - 1];
-            if code == 0 || code == u8::from(mark.side) {
+            // Stays in this order: where the side is known first, the two are one test in the program.
+            if code == u8::from(mark.side) || code == 0 {
                 continue 'rules;
             }
         }

@@ -47,10 +47,12 @@ impl<S: Shelf> RuleList for ShelfRules<'_, S> {
         self.0.places()
     }
 
+    #[tactic(auto, using(std::proofs::lemmas::Grind::common_steps, std::proofs::lemmas::Option::gets))]
     fn marks(&self, rule: usize) -> Option<usize> {
         self.0.marks(rule)
     }
 
+    #[tactic(auto, using(std::proofs::lemmas::Grind::common_steps, std::proofs::lemmas::Option::gets))]
     fn mark(&self, rule: usize, place: usize) -> Option<Mark> {
         self.0.mark(rule, place)
     }

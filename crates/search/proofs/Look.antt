@@ -45,12 +45,8 @@ module _ (n : ℕ) (Ob : Choice → Type 0) (hs : Rule) (at : Reason → Option 
   reason_facts [] s x r h v = grind arith
   reason_facts (e ∷ t) s x r h v =
       elim (cases_eq e.mark.part x.part) [
-        | inl q ↦
-            let (R, is, others) = why_facts e.kind e.mark t r s.2 (grind arith) in
-            (R, is, λ y i. grind (arith, others y i), λ i. grind (arith, others (opposite_of x) i))
-        | inr ne ↦
-            let (R, is, others, lone) = reason_facts t s.3 x r (grind arith) (grind arith) in
-            (R, is, λ y i. grind (arith, others y i), lone)
+        | inl q ↦ let (R, is, others) = why_facts e.kind e.mark t r s.2 (grind arith) in (R, is, λ y i. grind (arith, others y i), λ i. grind (arith, others (opposite_of x) i))
+        | inr ne ↦ let (R, is, others, lone) = reason_facts t s.3 x r (grind arith) (grind arith) in (R, is, λ y i. grind (arith, others y i), lone)
       ]
 
   -- a turn on the reason of a part that is settled against its hold
@@ -152,8 +148,7 @@ module _ (b : Bench) (m : Machine) where
 
     -- where no hold is crossed or open, each is kept
     keeps : first crossed hs ≡ None → first vacant hs ≡ None → Kept hs t
-    keeps ec eh h i =
-        grind (arith, first_none crossed hs ec h i, first_none vacant hs eh h i, crossed_reason n Ob hs at_of once t sound h i)
+    keeps ec eh h i = grind (arith, first_none crossed hs ec h i, first_none vacant hs eh h i, crossed_reason n Ob hs at_of once t sound h i)
 
     -- where all is settled and no rule is broken or pressing, each rule of the book is met
     met : first (λ r. if_broken r (st r)) all ≡ None → first (λ r. if_pressing r (st r)) all ≡ None → all_settled (row n t) ≡ true → Met

@@ -16,15 +16,13 @@ use Rattle.search.specs.Machine.{Places, rule_at, or_else, first, is_place, need
 use Rattle.search.specs.Law.{Among}
 use Rattle.search.proofs.Basics.{among_left, among_right, among_either, among_from, from_among, first_some, first_none, item_set}
 use Rattle.search.proofs.Tally.{tally, tally_none, tally_most, tally_free}
-use Rattle.search.proofs.Invariant.{Why, Sound}
+use Rattle.search.proofs.Invariant.{Sound}
 
 -- the places in their round are 1 to k
 pub among_around : (last k p : ℕ) → last ≤ k → 1 ≤ p → p ≤ k → Among p (around last k)
 unfolding around
 among_around last k p l a b =
-    let late = among_left (from (suc last) (k - last)) (from 1 last) p in
-    let early = among_right (from (suc last) (k - last)) (from 1 last) p in
-    grind (arith, late, early, among_from (suc last) (k - last) p, among_from 1 last p)
+    grind (arith, among_left (from (suc last) (k - last)) (from 1 last) p, among_right (from (suc last) (k - last)) (from 1 last) p, among_from (suc last) (k - last) p, among_from 1 last p)
 
 pub around_among : (last k p : ℕ) → last ≤ k → Among p (around last k) → (1 ≤ p) × (p ≤ k)
 unfolding around
@@ -95,11 +93,7 @@ on_needed (e ∷ t) i h = grind (arith, on_needed t i)
 -- a trail stays sound where the rules of its reasons stay
 pub sound_move : (n : ℕ) (hs : Rule) (at at' : Reason → Option Rule) (t : Trail) → ((r : Reason) → On r t → at' r ≡ at r) → Sound n hs at t → Sound n hs at' t
 sound_move n hs at at' [] h s = tt
-sound_move n hs at at' (e ∷ t) h s = (s.0, s.1, go e.kind (λ r q. h r (inl q)) s.2, sound_move n hs at at' t (λ r j. h r (inr j)) s.3)
-  where
-    go : (k : Kind) → ((r : Reason) → k ≡ Forced r → at' r ≡ at r) → Why hs at k e.mark t → Why hs at' k e.mark t
-    go (Forced r) h w = rw (h r refl) w
-    go k h w = grind arith
+sound_move n hs at at' (e ∷ t) h s = grind (arith, h, sound_move n hs at at' t (λ r j. h r (inr j)))
 
 -- forgetting keeps the reasons on the trail, and adds nothing
 pub sweep_length : (f : Forgetting) (t : Trail) (i : ℕ) (s : Places) → length (sweep f t i s) ≡ length s

@@ -74,12 +74,10 @@ accepted_inv : {b : Bench} {s : Shelved} {m : Machine} → Lawful b s → Inv b 
 unfolding refuses accepted
 accepted_inv {b} {m} law inv (hold p s) z =
     let new : List Mark = held_on p (side_of s) in
-    restarted_inv inv (m.holds ++ new) (once_more m.holds p (side_of s) inv.once (grind arith))
-    (λ h i. grind (arith, among_either m.holds new h i, inv.range h, new_part p (side_of s) h))
+    restarted_inv inv (m.holds ++ new) (once_more m.holds p (side_of s) inv.once (grind arith)) (λ h i. grind (arith, among_either m.holds new h i, inv.range h, new_part p (side_of s) h))
 accepted_inv {b} {m} law inv (release p) z =
-    restarted_inv inv (released p m.holds)
-    (λ g h i j. inv.once g h (released_among p m.holds g i) (released_among p m.holds h j))
-    (λ h i. inv.range h (released_among p m.holds h i))
+    let kept = released_among p m.holds in
+    restarted_inv inv (released p m.holds) (λ g h i j. inv.once g h (kept g i) (kept h j)) (λ h i. inv.range h (kept h i))
 accepted_inv law inv (run_for k) z = run_inv law inv k
 
 -- every call keeps the invariant, refused or accepted
@@ -114,7 +112,7 @@ told_or_below b m inv working w =
     let at : Reason → Option Rule = rule_at b.book.rules m.shelf.rows in
     let few : m.turns < 2 ^ n = omega (arith, w.0, worth_below n m.holds at m.trail inv.sound) in
     let below = final_steps n m.turns m.steps (length m.trail) few w.1 (sound_length n m.holds at m.trail inv.sound) in
-    (tt, (omega arith, omega arith), λ h. below)
+    grind arith
 told_or_below b m inv v w = grind arith
 
 -- while no verdict stands, all that was given is used

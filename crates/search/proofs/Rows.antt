@@ -1,5 +1,5 @@
 -- Rows of codes as rules: what is named after marks are written in or a part is left out.
-use Rattle.std.proofs.Common.{◌≡◌, ℕ, zero, suc, ◌+◌, ◌-◌, ◌≤◌, true, false, ◌≢◌, ◌⊎◌, [], ◌∷◌, length, nat_le, set, replicate, Some, Option, refl, inl, inr, arith}
+use Rattle.std.proofs.Common.{◌≡◌, ℕ, zero, suc, ◌+◌, ◌-◌, ◌≤◌, true, false, ◌≢◌, ◌⊎◌, [], ◌∷◌, length, nat_le, set, replicate, Some, Option, refl, inl, arith}
 use Rattle.std.specs.List.{slice_get}
 use Rattle.std.proofs.lemmas.Grind.{common_steps}
 use Rattle.std.proofs.lemmas.List.Recursion.{and_set}
@@ -76,25 +76,17 @@ empty_codes (suc n) = empty_codes n
 pub enter_stays : (c : Row) (r : Rule) (y : Mark) → Within c r → Names c y → (Among (opposite_of y) r → ⊥) → Names (enter c r) y
 unfolding enter
 enter_stays c [] y w h n = h
-enter_stays c (m ∷ r) y w h n =
-    let here = w m (inl refl) in
-    let other : opposite_of y ≢ m = λ q. n (inl q) in
-    enter_stays (put c m) r y (within_put c m r w) (grind (arith, item_set)) (λ i. n (inr i))
+enter_stays c (m ∷ r) y w h n = grind (arith, w m, item_set, enter_stays (put c m) r y (within_put c m r w))
 
 pub enter_comes : (c : Row) (r : Rule) (y : Mark) → Within c r → Among y r → (Among (opposite_of y) r → ⊥) → Names (enter c r) y
 unfolding enter
 enter_comes c [] y w i n = grind arith
-enter_comes c (m ∷ r) y w (inl q) n =
-    let here = w m (inl refl) in
-    enter_stays (put c m) r y (within_put c m r w) (grind (arith, item_set)) (λ i. n (inr i))
-enter_comes c (m ∷ r) y w (inr i) n = enter_comes (put c m) r y (within_put c m r w) i (λ j. n (inr j))
+enter_comes c (m ∷ r) y w i n = grind (arith, w m, item_set, enter_stays (put c m) r y (within_put c m r w), enter_comes (put c m) r y (within_put c m r w))
 
 pub enter_from : (c : Row) (r : Rule) (y : Mark) → Within c r → Names (enter c r) y → Names c y ⊎ Among y r
 unfolding enter
 enter_from c [] y w h = inl h
-enter_from c (m ∷ r) y w h =
-    let here = w m (inl refl) in
-    grind (arith, item_set, enter_from (put c m) r y (within_put c m r w) h)
+enter_from c (m ∷ r) y w h = grind (arith, w m, item_set, enter_from (put c m) r y (within_put c m r w) h)
 
 -- a part left out
 pub leave_length : (p : ℕ) (c : Row) → length (leave p c) ≡ length c

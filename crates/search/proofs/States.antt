@@ -2,8 +2,7 @@
 use Rattle.std.proofs.Common.{◌≡◌, ◌≢◌, ◌⊎◌, [], ◌∷◌, Some, None, arith}
 use Rattle.parts.specs.declared.Mark.{Mark}
 use Rattle.book.specs.Meaning.{Rule}
-use Rattle.search.specs.Trail.{Trail, settled, truth, State, broken, pressing, quiet, state}
-use Rattle.search.specs.Machine.{if_open}
+use Rattle.search.specs.Trail.{Trail, settled, State, broken, pressing, quiet, state}
 use Rattle.search.specs.Law.{Among}
 use Rattle.search.proofs.Invariant.{Failed}
 
@@ -18,7 +17,3 @@ pub state_says : (t : Trail) (r : Rule) → Says t r (state t r)
 unfolding state
 state_says t [] = λ y i. absurd i
 state_says t (m ∷ r) = grind (arith, state_says t r)
-
--- a hold that is open
-pub open_some : (t : Trail) (g h : Mark) → if_open g (truth t g) ≡ Some h → (g ≡ h) × (settled t g.part ≡ None)
-open_some t g h k = grind arith

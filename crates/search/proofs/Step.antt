@@ -45,11 +45,9 @@ named_held n c (x ∷ hs) range h i =
 pub held_named : (n : ℕ) (c : Row) (hs : Rule) → Ranged n hs → Once hs → (h : Mark) → Among h hs → Names c (opposite_of h) → Names (named_holds n c hs) h
 unfolding named_holds
 held_named n c [] range once h i j = absurd i
-held_named n c (x ∷ hs) range once h (inl q) j =
-    grind (arith, true_names c (opposite_of h), enter_comes (named_holds n c hs) (x ∷ []) h (one_within n c x hs range))
-held_named n c (x ∷ hs) range once h (inr i) j =
-    let rest = held_named n c hs (λ y k. range y (inr k)) (λ g k a b. once g k (inr a) (inr b)) h i j in
-    grind (arith, rest, enter_stays (named_holds n c hs) (x ∷ []) h (one_within n c x hs range), once h x)
+held_named n c (x ∷ hs) range once h i j =
+    let rest = held_named n c hs (λ y k. range y (inr k)) (λ g k a b. once g k (inr a) (inr b)) h in
+    grind (arith, rest, true_names c (opposite_of h), once h x, enter_stays (named_holds n c hs) (x ∷ []) h (one_within n c x hs range), enter_comes (named_holds n c hs) (x ∷ []) h (one_within n c x hs range))
 
 -- the worth of a trail stays below 2 ^ n
 pub top_most : (n : ℕ) (hs : Rule) (at : Reason → Option Rule) (t : Trail) → Sound n hs at t → top n t ≤ 2 ^ n
@@ -143,9 +141,7 @@ module _ (b : Bench) (s : Shelved) (m : Machine) (law : Lawful b s) (inv : Inv b
 
   -- the picker answers
   ask_ok : (x : Mark) → pickers.Free b.picker.n (row n m.trail) x.part → Kept hs m.trail → Inv b (pushed m x Picked)
-  ask_ok x f kept =
-      let z = answer_open (row n m.trail) b.picker.n x.part f in
-      push_ok x Picked (grind (arith, place_row n m.trail x.part, law.same_picker)) (grind (arith, law.same_picker)) kept
+  ask_ok x f kept = push_ok x Picked (grind (arith, place_row n m.trail x.part, answer_open (row n m.trail) b.picker.n x.part f, law.same_picker)) (grind (arith, law.same_picker)) kept
 
   -- each of the moves
   act_ok : (v : Move) → Looked b m v → Inv b (act b m v)

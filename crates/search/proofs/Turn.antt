@@ -128,9 +128,7 @@ module _ (n : ℕ) (Ob : Choice → Type 0) (hs : Rule) (at : Reason → Option 
   worked_ok false k x c t hv hq ok range op why cov g = (λ y i. grind (arith, cov y i, true_names c y), g)
   worked_ok true Held x c t hv hq ok range op why cov g = (λ y i. grind (arith, cov y i, twice_opposite x y), g)
   worked_ok true Picked x c t hv hq ok range op why cov g = grind arith
-  worked_ok true (Forced r) x c t hv hq ok range op why cov g =
-      let (R, is, own, others) = why in
-      rw is (resolved r x c t R (ok r R is) range op others cov g)
+  worked_ok true (Forced r) x c t hv hq ok range op (R, is, own, others) cov g = rw is (resolved r x c t R (ok r R is) range op others cov g)
 
   -- and so the turn ends well
   pub turn_ok : ((r : Reason) (R : Rule) → at r ≡ Some R → Good R) → (c : Row) (t : Trail) (w : ℕ) → w ≤ top n t → Sound n hs at t → Covered t c → Fine c → Ends w (turn at c t)

@@ -1,4 +1,2 @@
-pub mod Clearing
 pub mod Looking
-pub mod Machines
 pub mod Runs

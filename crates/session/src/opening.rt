@@ -75,11 +75,11 @@ fn in_range(forget: Forgetting) -> bool
 }
 
 // Empties every place.
-#[tactic(auto, using(crate::proofs::Clearing::front_none, crate::proofs::Clearing::front_more, crate::proofs::Clearing::front_all))]
+#[tactic(auto, using(std::proofs::lemmas::Grind::common_steps, shelf::proofs::Filling::fill_more))]
 fn clear_all<S: Shelf>(shelf: &mut S)
     ensures { S.Shelf.meaning shelf.new ≡ emptied (S.Shelf.meaning shelf.old) }
 {
-    for place in 1..=shelf.places() {
-        let _ = shelf.clear(place);
+    for before in 0..shelf.places() {
+        let _ = shelf.clear(before + 1);
     }
 }

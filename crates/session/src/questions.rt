@@ -3,6 +3,8 @@ ghost use Rattle.std.specs.Prelude.{◌≡◌, ◌≤◌, length, IfSome};
 ghost use Rattle.std.specs.Option.{option_map};
 ghost use Rattle.shelf.specs.Meaning.{code_of_place};
 ghost use Rattle.search.specs.Calls.{report as report_of, settled_code, choice_row, named_row};
+ghost use Rattle.search.specs.Trail.{row as row_of};
+ghost use Rattle.trail.specs.Stacks.{trail_of};
 ghost use Rattle.session.specs.View.{machine_of, filled, done, shown};
 
 use crate::Session;
@@ -44,13 +46,14 @@ impl<B: Book, P: Picker, S: Shelf> Session<B, P, S> {
     }
 
     // Fills a row with the choice that a standing "fits" shows.
+    #[tactic(auto, using(search::proofs::Settled::length_row))]
     pub fn choice(&self, row: &mut [u8]) -> Result<(), Refusal>
         ensures answer { result ≡ done (choice_row (B.Book.meaning self.now.book).n (machine_of B.Book.meaning S.Shelf.meaning self.now) (length row.old)) }
         ensures after { row.new ≡ filled (choice_row (B.Book.meaning self.now.book).n (machine_of B.Book.meaning S.Shelf.meaning self.now) (length row.old)) row.old }
     {
         let n = self.book.n();
         let codes = match self.verdict {
-            Verdict::Fits => Some(&self.trail.row()[..n]),
+            Verdict::Fits => Some(self.row()),
             _ => None,
         };
         show(codes, n, row)
@@ -67,6 +70,14 @@ impl<B: Book, P: Picker, S: Shelf> Session<B, P, S> {
             _ => None,
         };
         show(codes, n, row)
+    }
+
+    // The settled row of the book's parts.
+    #[tactic(auto, using(search::proofs::Settled::length_row, trail::proofs::Stacking::row_front))]
+    pub(crate) fn row(&self) -> &[u8]
+        ensures { result.now ≡ row_of (B.Book.meaning self.now.book).n (trail_of self.now.trail) }
+    {
+        &self.trail.row()[..self.book.n()]
     }
 }
 

@@ -20,7 +20,7 @@ const MOST_STEPS: usize = 50_000_000;
 
 impl<B: Book, P: Picker, S: Shelf> Session<B, P, S> {
     // Steps until the budget is used or a verdict stands, and tells the verdict or "spent" with the counts.
-    #[tactic(auto, using(std::proofs::lemmas::Bool::Decides::nat_tests, crate::proofs::Runs::run_more, crate::proofs::Runs::run_done, crate::proofs::Runs::step_steps, search::proofs::Promises::run_told_same), unfolding(search::specs::Calls::call, search::specs::Calls::refuses, search::specs::Calls::accepted))]
+    #[tactic(auto, using(std::proofs::lemmas::Bool::Decides::nat_tests, crate::proofs::Runs::run_more, search::proofs::Promises::act_steps, search::proofs::Promises::run_told_same), unfolding(search::specs::Calls::call, search::specs::Calls::refuses, search::specs::Calls::accepted, search::specs::Machine::run, search::specs::Machine::step))]
     pub fn run(&mut self, budget: usize) -> Result<Report, Refusal>
         ensures answer { result ≡ run_reply (bench_of B.Book.meaning P.Picker.meaning self.old) (machine_of B.Book.meaning S.Shelf.meaning self.old) budget }
         ensures after { machine_of B.Book.meaning S.Shelf.meaning self.new ≡ call (bench_of B.Book.meaning P.Picker.meaning self.old) (run_for budget) (machine_of B.Book.meaning S.Shelf.meaning self.old) }

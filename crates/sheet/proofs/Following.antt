@@ -21,17 +21,11 @@ uncut_is bs e = grind (arith, nat_tests)
 
 -- a first line that is ended, and the others
 pub cut_line : (at : ℕ) (bs l r : List ℕ) → cut_at 10 bs ≡ Some (l, r) → lines at bs ≡ record { at = at; bytes = l } ∷ lines (at + length l + 1) r
-cut_line at bs l r e =
-    let (h, p, q) = cut_is bs l r e in
-    let k : length (take (prefix_len inline bs) bs) ≡ prefix_len inline bs = grind (arith, common_steps) in
-    rw (p, q, k, ← drop-drop 1 (prefix_len inline bs) bs) (line_run at bs (omega (arith, h)))
+cut_line at bs l r e = grind (arith, common_steps, cut_is bs l r e, drop-drop 1 (prefix_len inline bs) bs, line_run at bs)
 
 -- a text with no line feed is one line
 pub cut_last : (at : ℕ) (bs : List ℕ) → cut_at 10 bs ≡ None → 0 < length bs → lines at bs ≡ record { at = at; bytes = bs } ∷ []
-cut_last at bs e h =
-    let t : take (prefix_len inline bs) bs ≡ bs = grind (arith, common_steps, uncut_is bs e) in
-    let d : drop (prefix_len inline bs) bs ≡ [] = grind (arith, common_steps, uncut_is bs e) in
-    line_run at bs h ∙ rw (t, d)
+cut_last at bs e h = grind (arith, common_steps, uncut_is bs e, line_run at bs h)
 
 -- a line that is ended, by what it says after what was said before
 module _ (n end at : ℕ) (s : Said) (bs l r : List ℕ) (fits : at + length bs ≡ end) (is : cut_at 10 bs ≡ Some (l, r)) where

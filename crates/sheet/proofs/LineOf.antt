@@ -1,6 +1,6 @@
 -- Which lines say a part or a hold, and which.
-use Rattle.std.proofs.Common.{◌≡◌, ℕ, ◌<◌, eqb, List, [], ◌∷◌, ◌++◌, length, Some, arith, ◌+◌, ◌-◌, ◌≤◌, true, ◌⊎◌, None, codes, decimal, Option, refl, ap, inl, inr, rules, append-nil, append_assoc, length-append}
-use Rattle.std.specs.List.{AllByRecursion, position, position_or_len, list_all}
+use Rattle.std.proofs.Common.{◌≡◌, ℕ, ◌<◌, eqb, List, [], ◌∷◌, ◌++◌, length, Some, arith, ◌+◌, ◌≤◌, true, ◌⊎◌, None, codes, decimal, Option, rules, append_assoc, length-append}
+use Rattle.std.specs.List.{AllByRecursion, position_or_len, list_all}
 use Rattle.std.proofs.lemmas.Grind.{common_steps}
 use Rattle.std.proofs.lemmas.Bool.Decides.{nat_tests}
 use Rattle.std.proofs.lemmas.List.Sums.{split_at_first, passes_at_first}
@@ -25,14 +25,11 @@ Plain bs = AllByRecursion (λ b. 10 < b) bs
 -- where the first tab stands
 first_tab : (a b : List ℕ) → Plain a → position_or_len (λ b. eqb b 9) (a ++ 9 ∷ b) ≡ length a
 first_tab [] b h = grind arith
-first_tab (x ∷ a) b h = grind (arith, nat_tests, first_tab a b)
-
-place_tab : (a b : List ℕ) → Plain a → position (λ b. eqb b 9) (a ++ 9 ∷ b) ≡ Some (length a)
-place_tab a b h = let e = first_tab a b h in grind (arith, common_steps, nat_tests)
+first_tab (x ∷ a) b h = grind (arith, nat_tests, first_tab a b h.1)
 
 -- a line is cut there
 pub cut_at : (a b : List ℕ) → Plain a → cut (a ++ 9 ∷ b) ≡ Some (a, b)
-cut_at a b h = rw (place_tab a b h, take-append_seam a (9 ∷ b), drop-append-add a (9 ∷ b) 1)
+cut_at a b h = grind (arith, common_steps, nat_tests, first_tab a b h, take-append_seam a (9 ∷ b), drop-append-add a (9 ∷ b) 1)
 
 -- and is the two parts with the tab between
 pub cut_is : (bs : List ℕ) (p : List ℕ × List ℕ) → cut bs ≡ Some p → bs ≡ p.0 ++ 9 ∷ p.1
@@ -64,18 +61,13 @@ name_plain [] h = tt
 name_plain (b ∷ bs) h = (grind (arith, nat_tests), name_plain bs (grind arith))
 
 side_plain : (s : Side) → Plain (side_text s)
-side_plain In = search rules
-side_plain Out = search rules
+side_plain s = grind arith
 
 -- a line is read by its three fields
 line_three : (at : ℕ) (a b c : List ℕ) → Plain a → Plain b → line_of at (tabbed a b c) ≡ line_by at (length (tabbed a b c)) a (Some (b, c))
 line_three at a b c ha hb = rw (cut_at a (b ++ 9 ∷ c) ha, line_of, cut_at b c hb)
 
--- the word of a side tells it, and no other word does
-word_side : (s : Side) → side_of_word (side_text s) ≡ Some s
-word_side In = refl
-word_side Out = refl
-
+-- a side is told by its word alone
 side_word : (w : List ℕ) (s : Side) → side_of_word w ≡ Some s → w ≡ side_text s
 side_word w s h = grind (arith, bytes_eq-Decides w (codes "in"), bytes_eq-Decides w (codes "out"))
 
@@ -86,15 +78,7 @@ says_line at bytes (part k name) h =
     grind (arith, common_steps, nat_tests, number_decimal k h.3)
 says_line at bytes (hold m) h =
     let three = line_three at (codes "hold") (decimal m.part) (side_text m.side) (search rules) (digits_plain (decimal m.part) (decimal_digits m.part h.1)) in
-    grind (arith, common_steps, nat_tests, number_decimal m.part h.1, word_side m.side)
-
--- what a part's and a hold's fields are
-by_part : (at len : ℕ) (name : List ℕ) (o : Option ℕ) (l : Line) → part_by at len o name ≡ Some l
-    → (k : ℕ) × (o ≡ Some k) × (is_name name ≡ true) × (l ≡ part k (record { at = at + (len - length name); bytes = name }))
-by_part at len name o l h = grind arith
-
-by_hold : (o : Option ℕ) (s : Option Side) (l : Line) → hold_by o s ≡ Some l → (k : ℕ) × (side : Side) × (o ≡ Some k) × (s ≡ Some side) × (l ≡ hold (record { part = k; side = side }))
-by_hold o s l h = grind arith
+    grind (arith, common_steps, nat_tests, number_decimal m.part h.1)
 
 -- a line that says something is cut twice, and its first field is one of two words
 by_cut : (at : ℕ) (bytes : List ℕ) (o : Option (List ℕ × List ℕ)) (l : Line) → elim o [ None ↦ None | Some p ↦ line_by at (length bytes) p.0 (cut p.1) ] ≡ Some l
@@ -112,33 +96,20 @@ line_says at bytes l h =
     let (q, cut_q, said) = by_word at (length bytes) p.0 (cut p.1) l line in
     let e = cut_is bytes p cut_p in
     let f = cut_is p.1 q cut_q in
-    elim said [
-      | inl g ↦
-          let (k, number_k, name, is) = by_part at (length bytes) q.1 (number q.0) l g.1 in
-          let (digits, small) = decimal_number q.0 k number_k in
-          let words : bytes ≡ part_words k q.1 = cc in
-          rw is (words, omega (arith, simp length-append at (ap length words)), name, small)
-      | inr g ↦
-          let (k, side, number_k, side_k, is) = by_hold (number q.0) (side_of_word q.1) l g.1 in
-          let (digits, small) = decimal_number q.0 k number_k in
-          let word = side_word q.1 side side_k in
-          rw is (cc, small)
-    ]
+    let long = length-append p.0 (9 ∷ p.1) in
+    let longer = length-append q.0 (9 ∷ q.1) in
+    grind (arith, said, decimal_number q.0, side_word q.1)
 
 -- none has a line feed
-plain_inline : (a rest : List ℕ) → Plain a → AllByRecursion Inline rest → AllByRecursion Inline (a ++ rest)
-plain_inline [] rest h i = i
-plain_inline (b ∷ a) rest h i = (λ e. omega (arith, h.0), plain_inline a rest h.1 i)
-
 tabbed_inline : (a b c : List ℕ) → Plain a → Plain b → Plain c → AllByRecursion Inline (tabbed a b c)
-tabbed_inline a b c i j k = plain_inline a _ i (λ e. omega arith, plain_inline b _ j (λ e. omega arith, rw (← append-nil c) (plain_inline c [] k tt)))
+tabbed_inline [] [] [] i j k = grind arith
+tabbed_inline [] [] (x ∷ c) i j k = grind (arith, tabbed_inline [] [] c)
+tabbed_inline [] (x ∷ b) c i j k = grind (arith, tabbed_inline [] b c)
+tabbed_inline (x ∷ a) b c i j k = grind (arith, tabbed_inline a b c)
 
 pub says_inline : (at : ℕ) (bytes : List ℕ) (l : Line) → Says at bytes l → AllByRecursion Inline bytes
-says_inline at bytes (part k name) h =
-    let letters : list_all name_byte name.bytes ≡ true = grind arith in
-    rw h.0 (tabbed_inline (codes "part") (decimal k) name.bytes (search rules) (digits_plain (decimal k) (decimal_digits k h.3)) (name_plain name.bytes letters))
-says_inline at bytes (hold m) h =
-    rw h.0 (tabbed_inline (codes "hold") (decimal m.part) (side_text m.side) (search rules) (digits_plain (decimal m.part) (decimal_digits m.part h.1)) (side_plain m.side))
+says_inline at bytes (part k name) h = grind (arith, tabbed_inline (codes "part") (decimal k) name.bytes (search rules) (digits_plain (decimal k) (decimal_digits k h.3)), name_plain name.bytes)
+says_inline at bytes (hold m) h = grind (arith, tabbed_inline (codes "hold") (decimal m.part) (side_text m.side) (search rules) (digits_plain (decimal m.part) (decimal_digits m.part h.1)), side_plain m.side)
 
 -- a line and its line feed
 pub part_ends : (k : ℕ) (name rest : List ℕ) → part_line k name ++ rest ≡ part_words k name ++ 10 ∷ rest

@@ -1,87 +1,35 @@
 -- A walk along a row by the codes that a shelf tells, part by part.
-use Rattle.std.proofs.Common.{◌≡◌, ℕ, zero, suc, ◌+◌, ◌-◌, ◌<◌, ◌≤◌, Bool, true, cond, List, [], ◌∷◌, length, get_or, drop, is_some, Some, None, Option, Result, refl, arith}
-use Rattle.std.specs.Option.{option_map}
-use Rattle.std.specs.Result.{result_ok}
-use Rattle.std.proofs.lemmas.List.{at_drop_more, at_drop_all}
+use Rattle.std.proofs.Common.{◌≡◌, ℕ, zero, suc, ◌+◌, ◌-◌, ◌≤◌, true, List, [], length, get_or, drop, Some, None, Ok, Option, refl, arith}
+use Rattle.std.proofs.lemmas.List.{at_drop_more, drop_all, get_or_past}
+use Rattle.std.proofs.lemmas.Bool.Decides.{nat_tests}
+use Rattle.std.proofs.lemmas.List.Recursion.{and_at}
 use Rattle.parts.specs.declared.Mark.{Mark}
-use Rattle.parts.specs.declared.Side.{Side}
-use Rattle.parts.specs.declared.refusals.Refusal.{Refusal}
 use Rattle.parts.specs.Codes.{side_of}
 use Rattle.parts.specs.Rows.{with_mark, marks_from}
-use Rattle.parts.specs.Lists.{at_place, then_at}
-use Rattle.shelf.specs.Meaning.{Shelved, Sound, row_of, code_of_place}
-use Rattle.shelf.proofs.Rows.{row_sound, row_length}
+use Rattle.shelf.specs.declared.Shelf.{Ghosts}
+use Rattle.shelf.specs.Meaning.{Shelved, Sound, every, sound_place, row_of, code_of_place}
 
--- the row that a code was told of
-pub record Told (s : Shelved) (place part code : ℕ) : Type 0 where
-  pub row : List ℕ
-  pub is : row_of s place ≡ Some row
-  pub code_is : code ≡ get_or row (part - 1) 0
-  pub low : 1 ≤ part
-  pub high : part ≤ length row
-
--- r was answered, and o stood in it
-pub told : (s : Shelved) → Sound s → (place part code : ℕ) → 1 ≤ part → part ≤ s.n → {r : Result (Option ℕ) Refusal} {o : Option ℕ} → r ≡ code_of_place s place part → Some o ≡ result_ok r → o ≡ Some code → Told s place part code
-told s ok place part code low l h e f = at (row_of s place) refl
-  where
-    at : (x : Option (List ℕ)) → row_of s place ≡ x → Told s place part code
-    at None n = grind arith
-    at (Some row) n = record { row = row; is = n; code_is = grind arith; low = low; high = omega (arith, row_length s.n row (row_sound s ok place row n)) }
+-- what stands at a place is a row, or nothing
+row_sound : (s : Shelved) → Sound s → (place : ℕ) → sound_place s.n (row_of s place) ≡ true
+row_sound s ok zero = refl
+row_sound s ok (suc k) = grind (arith, get_or_past s.rows k None, and_at (every (sound_place s.n)) (sound_place s.n) refl (λ x xs. refl) s.rows k None)
 
 -- the marks of what is left of a row from a part on
 abbrev pub left_from : ℕ → List ℕ → List Mark
 left_from part row = marks_from part (drop (part - 1) row)
 
-marks_more : (row : List ℕ) (part : ℕ) → 1 ≤ part → part ≤ length row → left_from part row ≡ with_mark (side_of (get_or row (part - 1) 0)) part (left_from (part + 1) row)
-marks_more row part low l = grind (arith, at_drop_more (marks_from part) row (part - 1) 0)
+-- the row that a code was told of: its marks from the part on, and that none are left past the last part
+abbrev Told : Shelved → ℕ → ℕ → ℕ → Type 0
+Told s place part code =
+    (row : List ℕ) × (row_of s place ≡ Some row) × (left_from part row ≡ with_mark (side_of code) part (left_from (part + 1) row)) × (s.n ≤ part → left_from (part + 1) row ≡ [])
 
--- how many marks there are, where so many were counted below a part
-abbrev pub counted : Shelved → ℕ → ℕ → ℕ → Option ℕ
-counted s place part marks = option_map (λ row. marks + length (left_from part row)) (row_of s place)
+told_at : (s : Shelved) → Sound s → (place part code : ℕ) → code_of_place s place part ≡ Ok (Some code) → (o : Option (List ℕ)) → row_of s place ≡ o → Told s place part code
+told_at s ok place part code c None e = absurd (grind (arith, nat_tests))
+told_at s ok place part code c (Some row) e =
+    let k = row_sound s ok place in
+    let l : (1 ≤ part) × (part ≤ length row) × (length row ≡ s.n) × (code ≡ get_or row (part - 1) 0) = grind (arith, nat_tests) in
+    (row, e, grind (arith, at_drop_more (marks_from part) row (part - 1) 0), grind (arith, drop_all part row))
 
--- the mark that is sought, where so many are left to pass from a part on
-abbrev pub sought : Shelved → ℕ → ℕ → ℕ → Option Mark
-sought s place part left = then_at (row_of s place) (λ row. at_place (left_from part row) left)
-
-pass_one : (m : Mark) (ms : List Mark) (left : ℕ) → (left ≡ 1 → ⊥) → at_place (m ∷ ms) left ≡ at_place ms (left - 1)
-pass_one m ms zero h = refl
-pass_one m ms (suc zero) h = absurd (h refl)
-pass_one m ms (suc (suc j)) h = grind arith
-
-module _ {s : Shelved} {place part code : ℕ} (t : Told s place part code) where
-  left_told : left_from part t.row ≡ with_mark (side_of code) part (left_from (part + 1) t.row)
-  left_told = grind (arith, marks_more t.row part t.low t.high)
-
-  pub count_more : (marks after : ℕ) (b : Bool) → is_some (side_of code) ≡ b → after ≡ marks + cond b 1 0 → counted s place (part + 1) after ≡ counted s place part marks
-  count_more marks after b e h = grind (arith, left_told)
-
-  pub seek_none : (left : ℕ) → side_of code ≡ None → sought s place (part + 1) left ≡ sought s place part left
-  seek_none left e = grind (arith, left_told)
-
-  pub seek_pass : (left : ℕ) (side : Side) → side_of code ≡ Some side → (left ≡ 1 → ⊥) → sought s place (part + 1) (left - 1) ≡ sought s place part left
-  seek_pass left side e h = grind (arith, left_told, pass_one (record { part = part; side = side }) (left_from (part + 1) t.row) left)
-
--- where all parts are passed
-module _ (s : Shelved) (ok : Sound s) (place part : ℕ) (all : s.n < part) where
-  none_left : (row : List ℕ) → row_of s place ≡ Some row → left_from part row ≡ []
-  none_left row e =
-      let n = row_length s.n row (row_sound s ok place row e) in
-      at_drop_all (marks_from part) row (part - 1) (omega arith)
-
-  pub count_all : (marks : ℕ) → is_some (row_of s place) ≡ true → counted s place part marks ≡ Some marks
-  count_all marks = by (row_of s place) refl
-    where
-      by : (o : Option (List ℕ)) → row_of s place ≡ o → is_some o ≡ true → option_map (λ row. marks + length (left_from part row)) o ≡ Some marks
-      by None e h = cc
-      by (Some row) e h = grind (arith, none_left row e)
-
-  pub seek_all : (left : ℕ) → sought s place part left ≡ None
-  seek_all left = by (row_of s place) refl
-    where
-      none_at : (i : ℕ) → ◌≡◌ {A = Option Mark} (at_place [] i) None
-      none_at zero = refl
-      none_at (suc i) = refl
-
-      by : (o : Option (List ℕ)) → row_of s place ≡ o → then_at o (λ row. at_place (left_from part row) left) ≡ None
-      by None e = refl
-      by (Some row) e = grind (arith, none_left row e, none_at left)
+-- the first part shows what is told
+pub told : {S : Type 0} (g : Ghosts S) (s : S) (place part : ℕ) → (code_of_place (g.meaning s) place part ≡ code_of_place (g.meaning s) place part) × ((code : ℕ) → code_of_place (g.meaning s) place part ≡ Ok (Some code) → Told (g.meaning s) place part code)
+told g s place part = (refl, λ code c. told_at (g.meaning s) (g.sound s) place part code c (row_of (g.meaning s) place) refl)

@@ -36,6 +36,7 @@ pub trait Shelf {
         ensures { result ≡ code_of_place (meaning self.now) place part };
 
     // How many marks a place's row names; nothing where the place is empty or out of range.
+    #[tactic(auto, using(crate::proofs::Walks::told))]
     fn marks(&self, place: usize) -> Option<usize>
         ensures { result ≡ marks_of_place (meaning self.now) place }
     {
@@ -51,6 +52,7 @@ pub trait Shelf {
     }
 
     // The k-th mark of a place's row, by rising part; nothing where there is none.
+    #[tactic(auto, using(crate::proofs::Walks::told))]
     fn mark(&self, place: usize, k: usize) -> Option<Mark>
         ensures { result ≡ mark_of_place (meaning self.now) place k }
     {

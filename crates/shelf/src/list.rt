@@ -23,20 +23,24 @@ impl Entry for u16 {
 
     const EMPTY: u16 = 0;
 
+    #[tactic(auto, using(crate::proofs::Marks::code_at_part, std::proofs::lemmas::Bool::Decides::nat_tests))]
     fn code(block: &[u16], part: usize) -> Option<u8> {
         Some(code_in(numbers(block)?, part))
     }
 
+    #[tactic(auto, using(crate::proofs::Marks::marks_back, std::proofs::lemmas::Grind::common_steps, std::proofs::lemmas::Bool::Decides::nat_tests))]
     fn marks(block: &[u16]) -> Option<usize> {
         Some(numbers(block)?.len())
     }
 
+    #[tactic(auto, using(crate::proofs::Marks::marks_back, crate::proofs::Marks::mapped, std::proofs::lemmas::Bool::Decides::nat_tests))]
     fn mark(block: &[u16], k: usize) -> Option<Mark> {
         let number = numbers(block)?.get(k.checked_sub(1)?)?;
         Some(mark_from(*number))
     }
 
     // Stays a count of its own: it places each mark, and in the end it is the block's first entry; a filtered chain would have to be counted once more.
+    #[tactic(auto, using(crate::proofs::Marks::marks_push, crate::proofs::Marks::numbers_back, crate::proofs::Marks::codes_back, crate::proofs::Marks::marks_rise, std::proofs::lemmas::Bool::Decides::nat_tests, std::proofs::lemmas::Grind::common_steps))]
     fn lay(block: &mut [u16], row: &[u8]) {
         let mut head = 1;
         for (i, code) in row.iter().enumerate() {

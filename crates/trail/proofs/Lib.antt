@@ -1,4 +1,2 @@
-pub mod Fronts
 pub mod Stacking
-pub mod Asking
 pub mod Walking

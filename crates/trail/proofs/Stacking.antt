@@ -1,19 +1,18 @@
 -- One entry more, or less, on the trail.
-use Rattle.std.proofs.Common.{◌≡◌, ℕ, ◌+◌, ◌-◌, ◌<◌, ◌≤◌, true, false, List, [], ◌∷◌, length, get_or, take, set, replicate, None, refl, arith}
+use Rattle.std.proofs.Common.{◌≡◌, ℕ, ◌+◌, ◌-◌, ◌<◌, ◌≤◌, true, false, List, [], ◌∷◌, length, get_or, take, set, is_some, None, refl, arith}
 use Rattle.std.proofs.lemmas.List.{ext_get_or}
 use Rattle.std.proofs.lemmas.Grind.{common_steps}
 use Rattle.std.proofs.lemmas.Option.{gets}
 use Rattle.parts.specs.Codes.{code_of}
-use Rattle.parts.specs.declared.Mark.{Mark}
+use Rattle.parts.specs.declared.Side.TheVariants.{In}
 use Rattle.book.specs.Meaning.{Rule, names, sound_rule}
 use Rattle.search.specs.declared.Entry.{Entry}
 use Rattle.search.specs.Trail.{settled, code, row}
 use Rattle.search.proofs.Settled.{length_row, place_row}
 use Rattle.search.proofs.Tally.{tally, tally_none, tally_le, tally_more}
 use Rattle.trail.specs.Stack.{marks_of, apart}
-use Rattle.trail.specs.Stacks.{trail_of, can_push}
+use Rattle.trail.specs.Stacks.{trail_of}
 use Rattle.trail.specs.declared.Trail.{Trail}
-use Rattle.trail.proofs.Fronts.{sound_outside}
 
 -- at most n marks name parts from 1 to n, none twice
 named_count : (n : ℕ) (r : Rule) → sound_rule n r ≡ true → tally (names r) 1 n ≡ length r
@@ -23,29 +22,28 @@ named_count n (m ∷ r) s = grind (arith, tally_more (names r) (names (m ∷ r))
 pub sound_length : (n : ℕ) (r : Rule) → sound_rule n r ≡ true → length r ≤ n
 sound_length n r s = omega (arith, named_count n r s, tally_le (names r) 1 n)
 
--- a part that is not named is not settled, and the other way
-pub unnamed : (t : List Entry) (p : ℕ) → names (marks_of t) p ≡ false → settled t p ≡ None
+-- a part is settled where it is named
+pub settled_names : (t : List Entry) (p : ℕ) → names (marks_of t) p ≡ is_some (settled t p)
 unfolding settled
-unnamed [] p e = refl
-unnamed (x ∷ t) p e = grind (arith, unnamed t p)
+settled_names [] p = refl
+settled_names (x ∷ t) p = grind (arith, settled_names t p)
 
-pub settled_names : (t : List Entry) (p : ℕ) → settled t p ≡ None → names (marks_of t) p ≡ false
-unfolding settled
-settled_names [] p e = refl
-settled_names (x ∷ t) p e = grind (arith, settled_names t p)
+pub unnamed : (t : List Entry) (p : ℕ) → names (marks_of t) p ≡ false → settled t p ≡ None
+unnamed t p e = grind (arith, settled_names t p)
+
+-- there is room on a trail where some part is open
+pub room : (t : List Entry) (p : ℕ) → settled t p ≡ None → 1 ≤ p → p ≤ 120 → apart t ≡ true → length t < 120
+room t p e lo hi s = grind (arith, common_steps, settled_names t p, sound_length 120 (record { part = p; side = In } ∷ marks_of t))
 
 -- a part outside 1 to 120 is not settled
-pub open_outside : (s : Trail) (p : ℕ) → (1 ≤ p → p ≤ 120 → ⊥) → settled (trail_of s) p ≡ None
-open_outside s p out = grind (arith, unnamed, sound_outside 120)
+pub open_outside : (t : List Entry) (p : ℕ) → apart t ≡ true → (1 ≤ p → p ≤ 120 → ⊥) → settled t p ≡ None
+unfolding settled
+open_outside [] p s out = refl
+open_outside (x ∷ t) p s out = grind (arith, open_outside t p)
 
 -- the row of n parts, one by one
-pub row_at : (n : ℕ) (t : List Entry) (p : ℕ) → p < n → get_or (row n t) p 0 ≡ code (settled t (1 + p))
-row_at n t p h = grind (arith, gets, place_row n t (1 + p))
-
--- the row of an empty trail
-pub row_none : (n : ℕ) → replicate n 0 ≡ row n []
-unfolding settled
-row_none n = ext_get_or 0 _ _ (grind (arith, common_steps, length_row)) (λ p h. grind (arith, common_steps, row_at n [] p))
+pub row_at : (n : ℕ) (t : List Entry) (p d : ℕ) → p < n → get_or (row n t) p d ≡ code (settled t (1 + p))
+row_at n t p d h = grind (arith, gets, place_row n t (1 + p))
 
 -- one part more or less in the row
 module _ (e : Entry) (t : List Entry) (lo : 1 ≤ e.mark.part) (hi : e.mark.part ≤ 120) where
@@ -57,22 +55,12 @@ module _ (e : Entry) (t : List Entry) (lo : 1 ≤ e.mark.part) (hi : e.mark.part
   row_pop new = ext_get_or 0 _ _ (grind (arith, common_steps, length_row)) (λ p h. grind (arith, common_steps, length_row, row_at, row_push, unnamed))
 
 -- what an entry that stands on the trail tells
-pub record Top (e : Entry) (t : List Entry) : Type 0 where
-  pub low : 1 ≤ e.mark.part
-  pub high : e.mark.part ≤ 120
-  pub new : names (marks_of t) e.mark.part ≡ false
-  pub rest : apart t ≡ true
-
-pub top_apart : (e : Entry) (t : List Entry) → apart (e ∷ t) ≡ true → Top e t
+pub top_apart : (e : Entry) (t : List Entry) → apart (e ∷ t) ≡ true → (1 ≤ e.mark.part) × (e.mark.part ≤ 120) × (names (marks_of t) e.mark.part ≡ false) × (apart t ≡ true)
 top_apart e t s = grind arith
 
 -- the row of fewer parts is the front of the row
 pub row_front : (n : ℕ) (t : List Entry) → n ≤ 120 → take n (row 120 t) ≡ row n t
 row_front n t h = ext_get_or 0 _ _ (grind (arith, common_steps, length_row)) (λ p l. grind (arith, common_steps, length_row, row_at))
-
--- a mark that may be settled
-pub can_push_from : (t : List Entry) (m : Mark) → 1 ≤ m.part → m.part ≤ 120 → settled t m.part ≡ None → can_push t m ≡ true
-can_push_from t m lo hi none = grind arith
 
 -- what always holds of a trail
 pub trail_apart : (s : Trail) → apart (trail_of s) ≡ true

@@ -1,5 +1,5 @@
 -- A walk along a list by places that count from 1.
-use Rattle.std.proofs.Common.{◌≡◌, ℕ, ◌+◌, ◌-◌, ◌<◌, ◌≤◌, List, [], ◌∷◌, length, drop, Some, None, arith}
+use Rattle.std.proofs.Common.{◌≡◌, ℕ, ◌+◌, ◌-◌, ◌<◌, List, [], ◌∷◌, length, drop, Some, arith}
 use Rattle.std.proofs.lemmas.Grind.{common_steps}
 use Rattle.std.proofs.lemmas.Option.{gets}
 use Rattle.parts.specs.Lists.{at_place}
@@ -13,7 +13,3 @@ onward_at F xs k x e = grind (arith, common_steps, gets)
 
 pub onward_end : {X Y : Type 0} (F : List X → Y) (xs : List X) (k : ℕ) → length xs < k → F (onward k xs) ≡ F []
 onward_end F xs k h = grind (arith, common_steps)
-
--- something stands at each place of a list
-pub none_at : {X : Type 0} (xs : List X) (k : ℕ) → 1 ≤ k → k ≤ length xs → None ≡ at_place xs k → ⊥
-none_at xs k lo hi e = grind (arith, common_steps, gets)

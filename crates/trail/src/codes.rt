@@ -16,6 +16,7 @@ impl Trail {
     }
 
     // The side on which a part is settled; nothing where it is open, or is no part.
+    #[tactic(auto, using(std::proofs::lemmas::Grind::common_steps, search::proofs::Settled::length_row, crate::proofs::Stacking::row_at, crate::proofs::Stacking::open_outside))]
     pub fn settled(&self, part: usize) -> Option<Side>
         ensures { result ≡ settled (trail_of self.now) part }
     {

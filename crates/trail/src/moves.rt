@@ -10,6 +10,7 @@ use search::{Entry, Kind};
 
 impl Trail {
     // Nothing is settled.
+    #[tactic(auto, unfolding(search::specs::Trail::row, search::specs::Trail::from, search::specs::Trail::settled))]
     pub fn empty() -> Trail
         ensures { trail_of result ≡ [] }
     {
@@ -21,6 +22,7 @@ impl Trail {
 
     // Settles a part that is open, from 1 to 120, and tells whether it was.
     // Stays a bool, as the insertion into a set: there is no value to tell beside it.
+    #[tactic(auto, using(crate::proofs::Stacking::row_at))]
     pub fn settle(&mut self, mark: Mark, kind: Kind) -> bool
         ensures answer { result ≡ can_push (trail_of self.old) mark }
         ensures after { trail_of self.new ≡ (if result then (record { mark = mark; kind = kind } ∷ trail_of self.old) else trail_of self.old) }
@@ -33,6 +35,7 @@ impl Trail {
     }
 
     // One more part is settled; it was open.
+    #[tactic(auto, using(std::proofs::lemmas::Grind::common_steps, crate::proofs::Stacking::row_at, crate::proofs::Stacking::row_push, crate::proofs::Stacking::settled_names, crate::proofs::Stacking::room))]
     pub(crate) fn push(&mut self, mark: Mark, kind: Kind)
         requires { (1 ≤ mark.part) × ((mark.part ≤ 120) × (slice_index self.old.row (mark.part - 1) ≡ 0)) }
         ensures { trail_of self.new ≡ record { mark = mark; kind = kind } ∷ trail_of self.old }
@@ -49,6 +52,7 @@ impl Trail {
     }
 
     // The newest entry is taken off.
+    #[tactic(auto, using(std::proofs::lemmas::Grind::common_steps, crate::proofs::Stacking::row_pop))]
     pub fn pop(&mut self) -> Option<Entry>
         ensures value { result ≡ newest (trail_of self.old) }
         ensures after { trail_of self.new ≡ older (trail_of self.old) }

@@ -46,8 +46,8 @@ pub fn count_marks<B: Book>(book: &B) -> Option<usize>
 {
     // Stays a for: a try_fold would carry the same number through a closure that is this body.
     let mut left = MOST_TEXT_MARKS;
-    for rule in 1..=book.rules() {
-        let marks = book.marks(rule).unwrap_or(0);
+    for before in 0..book.rules() {
+        let marks = book.marks(before + 1).unwrap_or(0);
         left = left.checked_sub(marks)?;
     }
     Some(MOST_TEXT_MARKS - left)

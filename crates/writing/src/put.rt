@@ -38,8 +38,8 @@ fn put_mark(page: &mut Page, mark: Mark) -> fmt::Result
 fn put_marks<B: Book>(page: &mut Page, book: &B, rule: usize) -> fmt::Result
     ensures { Puts (marks_text (rule_at (B.Book.meaning book.now).rules rule)) page.old.bytes page.new.bytes result }
 {
-    for place in 1..=book.marks(rule).unwrap_or(0) {
-        if let Some(mark) = book.mark(rule, place) {
+    for before in 0..book.marks(rule).unwrap_or(0) {
+        if let Some(mark) = book.mark(rule, before + 1) {
             put_mark(page, mark)?;
         }
     }
@@ -70,8 +70,8 @@ pub(crate) fn put_book<B: Book>(page: &mut Page, book: &B) -> fmt::Result
     ensures { Puts (text_of (B.Book.meaning book.now)) page.old.bytes page.new.bytes result }
 {
     put_head(page, book.n(), book.rules())?;
-    for rule in 1..=book.rules() {
-        put_rule(page, book, rule)?;
+    for before in 0..book.rules() {
+        put_rule(page, book, before + 1)?;
     }
     Ok(())
 }

@@ -1,7 +1,6 @@
-use Rattle.std.proofs.Common.{◌≡◌, ◌+◌, length, Some}
+use Rattle.std.proofs.Common.{◌≡◌, ◌+◌}
 use Rattle.scan.specs.Scan.{scan_of, state_in, rule_in, broken_in}
 use Rattle.search.specs.Machine.{marks_at}
-use Rattle.scan.proofs.Scans.{falls}
 use Rattle.trail.proofs.Walking.{onward}
 use Rattle.scan.proofs.first_broken.Given as goal
 
@@ -12,6 +11,5 @@ invariant-rules g l =
 
 abbrev pub invariant-loop-at : goal.invariant-loop-at
 invariant-loop-at g l =
-    let rs = (g.R.RuleList.listed l.list).rules in
-    let ms = marks_at (rule_in rs l.rule) in
-    (rule_in rs l.rule ≡ Some ms) × (l.marks ≡ length ms) × (falls (state_in l.row (onward (l.at + 1) ms)) ≡ falls (state_in l.row ms))
+    let ms = marks_at (rule_in (g.R.RuleList.listed l.list).rules l.rule) in
+    state_in l.row (onward (l.at + 1) ms) ≡ state_in l.row ms

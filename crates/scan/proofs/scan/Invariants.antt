@@ -1,4 +1,4 @@
-use Rattle.std.proofs.Common.{◌≡◌, ◌+◌, length, Some}
+use Rattle.std.proofs.Common.{◌≡◌, ◌+◌}
 use Rattle.scan.specs.Scan.{scan_of, state_in, rule_in}
 use Rattle.search.specs.Machine.{marks_at}
 use Rattle.scan.proofs.Scans.{free}
@@ -12,6 +12,5 @@ invariant-rules g l =
 
 abbrev pub invariant-marks : goal.invariant-marks
 invariant-marks g l =
-    let rs = (g.R.RuleList.listed l.list).rules in
-    let ms = marks_at (rule_in rs l.rule) in
-    (rule_in rs l.rule ≡ Some ms) × (l.marks ≡ length ms) × (free l.free (state_in l.row (onward (l.passed + 1) ms)) ≡ state_in l.row ms)
+    let ms = marks_at (rule_in (g.R.RuleList.listed l.list).rules l.rule) in
+    free l.free (state_in l.row (onward (l.passed + 1) ms)) ≡ state_in l.row ms

@@ -22,6 +22,7 @@ use turns::Rules;
 impl<B: Book, P: Picker, S: Shelf> Session<B, P, S> {
     // Does one step, where no verdict stands.
     // Stays a fact that each part of a step asks for: a struct that lends the session together with it would break it at the first write.
+    #[tactic(auto, unfolding(search::specs::Machine::step, search::specs::Machine::act, search::specs::Machine::fitted))]
     pub(crate) fn step(&mut self)
         requires { Going self.old }
         ensures after { machine_of B.Book.meaning S.Shelf.meaning self.new ≡ step_of (bench_of B.Book.meaning P.Picker.meaning self.old) (machine_of B.Book.meaning S.Shelf.meaning self.old) }
@@ -40,6 +41,7 @@ impl<B: Book, P: Picker, S: Shelf> Session<B, P, S> {
     }
 
     // Settles an open part.
+    #[tactic(auto, unfolding(search::specs::Machine::pushed))]
     fn settle(&mut self, mark: Mark, kind: Kind)
         requires { Going self.old × Open (trail_of self.old.trail) mark }
         ensures after { machine_of B.Book.meaning S.Shelf.meaning self.new ≡ pushed (machine_of B.Book.meaning S.Shelf.meaning self.old) mark kind }
@@ -50,19 +52,20 @@ impl<B: Book, P: Picker, S: Shelf> Session<B, P, S> {
     }
 
     // Asks the picker, and settles its mark.
+    #[tactic(auto, using(crate::proofs::Runs::picked_open), unfolding(search::specs::Machine::idle))]
     fn ask(&mut self)
         requires { Going self.old }
         ensures after { machine_of B.Book.meaning S.Shelf.meaning self.new ≡ asked (machine_of B.Book.meaning S.Shelf.meaning self.old) (picked_by (P.Picker.meaning self.old.picker) (row_of (B.Book.meaning self.old.book).n (trail_of self.old.trail))) }
         ensures kept { Kept self.old self.new }
     {
-        let n = self.book.n();
-        match self.picker.pick(&self.trail.row()[..n]) {
+        match self.picker.pick(self.row()) {
             Some(mark) => self.settle(mark, Kind::Picked),
             None => self.steps += 1,
         }
     }
 
     // A turn on the rule of a reason.
+    #[tactic(auto, using(crate::proofs::Runs::empty_front, crate::proofs::Runs::turned_same, crate::proofs::Runs::stop_open, trail::proofs::Stacking::trail_apart), unfolding(search::specs::Machine::act))]
     fn turn_on(&mut self, reason: Reason)
         requires { Going self.old }
         ensures after { machine_of B.Book.meaning S.Shelf.meaning self.new ≡ act (bench_of B.Book.meaning P.Picker.meaning self.old) (machine_of B.Book.meaning S.Shelf.meaning self.old) (turn_on reason) }
@@ -84,6 +87,7 @@ impl<B: Book, P: Picker, S: Shelf> Session<B, P, S> {
     }
 
     // The turn stopped at a picked mark: the working row is written on the shelf as a lesson, which forces the mark's opposite; then lessons are forgotten.
+    #[tactic(auto, unfolding(search::specs::Machine::turned))]
     fn learn(&mut self, picked: Mark, work: &[u8])
         requires { Going self.old × Open (trail_of self.old.trail) picked }
         ensures after { machine_of B.Book.meaning S.Shelf.meaning self.new ≡ turned (bench_of B.Book.meaning P.Picker.meaning self.old) (machine_of B.Book.meaning S.Shelf.meaning self.old) (stop picked work.now (trail_of self.old.trail)) }
@@ -101,6 +105,7 @@ impl<B: Book, P: Picker, S: Shelf> Session<B, P, S> {
     }
 
     // The turn came to the trail's bottom: no choice fits, and the holds whose opposites the working row names are named.
+    #[tactic(auto, using(crate::proofs::Runs::named_front), unfolding(search::specs::Machine::turned))]
     fn end(&mut self, work: &[u8])
         requires { Going self.old × (trail_of self.old.trail ≡ []) }
         ensures after { machine_of B.Book.meaning S.Shelf.meaning self.new ≡ turned (bench_of B.Book.meaning P.Picker.meaning self.old) (machine_of B.Book.meaning S.Shelf.meaning self.old) (bottom work.now) }

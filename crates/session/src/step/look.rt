@@ -21,6 +21,7 @@ use shelf::Shelf;
 
 impl<B: Book, P: Picker, S: Shelf> Session<B, P, S> {
     // The first that applies: a turn on the first broken rule, the mark of the first pressing one, then what the holds ask for. The book comes before the shelf.
+    #[tactic(auto, using(crate::proofs::Looking::looks))]
     pub(crate) fn look(&self) -> Move
         ensures looked { as_move result ≡ look_of (bench_of B.Book.meaning P.Picker.meaning self.now) (machine_of B.Book.meaning S.Shelf.meaning self.now) }
         ensures free { Settles (trail_of self.now.trail) result }
@@ -40,6 +41,7 @@ impl<B: Book, P: Picker, S: Shelf> Session<B, P, S> {
     }
 
     // Where no rule of the book is broken or pressing: the same of the lessons, then what the holds ask for.
+    #[tactic(auto, using(crate::proofs::Looking::looks))]
     fn look_at_shelf(&self) -> Move
         requires { scan_of (row_of 120 (trail_of self.now.trail)) 1 (book_list (B.Book.meaning self.now.book)).rules ≡ Quiet }
         ensures looked { as_move result ≡ look_of (bench_of B.Book.meaning P.Picker.meaning self.now) (machine_of B.Book.meaning S.Shelf.meaning self.now) }
@@ -63,8 +65,7 @@ impl<B: Book, P: Picker, S: Shelf> Session<B, P, S> {
         if let Some(hold) = self.holds.first_open(&self.trail) {
             return Move::Settle(hold);
         }
-        let n = self.book.n();
-        if all_settled(&self.trail.row()[..n]) {
+        if all_settled(self.row()) {
             Move::Fit
         } else {
             Move::Ask
@@ -73,8 +74,9 @@ impl<B: Book, P: Picker, S: Shelf> Session<B, P, S> {
 }
 
 // Whether no part of a row is open.
+#[tactic(auto, using(crate::proofs::Looking::none_open))]
 fn all_settled(row: &[u8]) -> bool
     ensures { result ≡ all_settled row.now }
 {
-    row.iter().all(|code| *code != 0)
+    !row.contains(&0)
 }

@@ -31,6 +31,7 @@ fn fill_front<E: Entry>(entries: &mut [E], count: usize)
 
 impl<E: Entry> TableShelf<E> {
     // Makes an empty shelf over the table; entries past places * (n + 1) are never looked at or changed.
+    #[tactic(auto, using(crate::proofs::Blocks::filling))]
     pub fn new(n: usize, places: usize, table: Vec<E>) -> Result<TableShelf<E>, Refused<Vec<E>>>
         ensures { MatchResult result (λ s. (can_make n places (vec_len table) ≡ true) × (s.n ≡ n) × (s.places ≡ places) × (table_meaning s ≡ empty n places) × (table_rest s ≡ drop (used n places) table.items) × (s.table.items ≡ replicate (used n places) E.EMPTY ++ drop (used n places) table.items)) (λ e. (can_make n places (vec_len table) ≡ false) × (e ≡ record { refusal = NotAShelf; back = table })) }
     {
@@ -86,26 +87,30 @@ impl<E: Entry> Shelf for TableShelf<E> {
         self.n
     }
 
+    #[tactic(auto, using(crate::specs::Table::length_rows))]
     fn places(&self) -> usize {
         self.places
     }
 
+    #[tactic(auto, using(crate::proofs::Blocks::code_told))]
     fn code(&self, place: usize, part: usize) -> Result<Option<u8>, Refusal> {
-        let block = self.block(place)?;
-        if part == 0 || part > self.n {
-            return Err(Refusal::ShelfOutOfRange);
+        match self.block(place) {
+            Ok(block) if 1 <= part && part <= self.n => Ok(E::code(block, part)),
+            _ => Err(Refusal::ShelfOutOfRange),
         }
-        Ok(E::code(block, part))
     }
 
+    #[tactic(auto, using(crate::proofs::Blocks::no_row, crate::proofs::Blocks::row_told))]
     fn marks(&self, place: usize) -> Option<usize> {
         E::marks(self.block(place).ok()?)
     }
 
+    #[tactic(auto, using(crate::proofs::Blocks::no_row, crate::proofs::Blocks::row_told))]
     fn mark(&self, place: usize, k: usize) -> Option<Mark> {
         E::mark(self.block(place).ok()?, k)
     }
 
+    #[tactic(auto, using(crate::specs::Table::length_rows, std::proofs::lemmas::Bool::Decides::nat_tests))]
     fn write(&mut self, place: usize, row: &[u8]) -> Result<(), Refusal>
         ensures answer { result ≡ reply (can_write (table_meaning self.old) place row.now) }
         ensures after { table_meaning self.new ≡ written (table_meaning self.old) place row.now }
@@ -120,6 +125,7 @@ impl<E: Entry> Shelf for TableShelf<E> {
         Ok(())
     }
 
+    #[tactic(auto, using(crate::specs::Table::length_rows, std::proofs::lemmas::Bool::Decides::nat_tests))]
     fn clear(&mut self, place: usize) -> Result<(), Refusal>
         ensures answer { result ≡ reply (can_clear (table_meaning self.old) place) }
         ensures after { table_meaning self.new ≡ cleared (table_meaning self.old) place }

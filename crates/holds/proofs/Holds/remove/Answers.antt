@@ -1,4 +1,4 @@
-use Rattle.std.proofs.Common.{◌≡◌, not, eqb, arith, rules}
+use Rattle.std.proofs.Common.{◌≡◌, ◌∙◌, not, eqb, arith, rules}
 use Rattle.arrayvec.proofs.ArrayVecLemmas.{filter-from_retain}
 use Rattle.parts.specs.declared.Mark.{Mark}
 use Rattle.search.specs.Calls.{released}
@@ -9,12 +9,10 @@ use Rattle.holds.proofs.Holds.remove.Goals as goal
 
 -- the marks of the other parts stay
 left : (c : After-retain) → c.retain.new.self.items ≡ released c.args.part (holds_of c.args.self.now)
-left c =
-    let kept = filter-from_retain _ (λ (m : Mark). not (eqb m.part c.args.part)) _ (λ x b f' y called. search rules) _ _ c.retain.ensures.filtered in
-    grind (arith, kept, released_filter c.args.part (holds_of c.args.self.now))
+left c = filter-from_retain _ (λ (m : Mark). not (eqb m.part c.args.part)) _ (λ x b f' y called. search rules) _ _ c.retain.ensures.filtered ∙ released_filter _ _
 
 pub invariant_of-self : goal.invariant_of-self
-invariant_of-self c = grind (arith, left (goal.at.invariant_of-self c).After-retain, released_sound)
+invariant_of-self c = grind (arith, left (goal.at.invariant_of-self c).After-retain, released_sound 120 c.args.part)
 
 pub returns : goal.returns
 returns c = left (goal.at.returns c).After-retain

@@ -1,22 +1,16 @@
-use Rattle.std.proofs.Common.{◌≡◌, ℕ, suc, ◌+◌, ◌-◌, ◌<◌, min, sym, ap, ◌∙◌, rules, tests, arith}
+use Rattle.std.proofs.Common.{suc, ◌-◌, sym, ap, ◌∙◌, rules, tests, arith}
 use Rattle.std.proofs.lemmas.Iterator.Adapters.{option_map_id}
 use Rattle.std.proofs.lemmas.Iterator.Consumers.{YieldsList-from_chain, YieldsList-at}
 use Rattle.std.proofs.lemmas.Iterator.Search.{find_from_yields_List}
 use Rattle.search.specs.Trail.{from}
 use Rattle.search.specs.Machine.{around}
-use Rattle.lessons.proofs.Ranges.{YieldsList-from_inclusive}
+use Rattle.lessons.proofs.Lessons.{YieldsList-from_inclusive}
 use Rattle.lessons.proofs.place.first_around.Goals as goal
 
--- the places ahead, where the first of them saturates
-ahead_of : (last places next : ℕ) → next ≡ min (last + 1) 18446744073709551615 → places + 1 < 18446744073709551616 → from next (places + 1 - next) ≡ from (suc last) (places - last)
-unfolding from
-ahead_of last places next e h = grind arith
-
 pub returns : goal.returns
-unfolding around
+unfolding around from
 returns g c = λ test says.
-    let ahead = YieldsList-at c.chain.ensures.first
-    (YieldsList-from_inclusive (from (suc c.args.last) (c.args.places - c.args.last)) c.new.ensures (ahead_of c.args.last c.args.places c.saturating_add.result c.saturating_add.ensures c.requires.few)) in
+    let ahead = YieldsList-at c.chain.ensures.first (YieldsList-from_inclusive (from (suc c.args.last) (c.args.places - c.args.last)) c.new.ensures (grind arith)) in
     let behind = YieldsList-at c.chain.ensures.second (YieldsList-from_inclusive (from 1 c.args.last) c.new-2.ensures (ap (from 1) (omega arith))) in
     sym (option_map_id c.find.result)
     ∙ find_from_yields_List test _ _ c.find.result c.find.ensures.ran (YieldsList-from_chain ahead behind c.chain.ensures.first_done c.chain.ensures.second_done)

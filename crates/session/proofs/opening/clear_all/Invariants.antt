@@ -1,6 +1,8 @@
-use Rattle.std.proofs.Common.{◌≡◌, ◌-◌}
-use Rattle.session.proofs.Clearing.{front}
+use Rattle.std.proofs.Common.{◌≡◌, ◌++◌, drop, replicate, None}
 use Rattle.session.proofs.opening.clear_all.Given as goal
 
-abbrev pub invariant-loop-place : goal.invariant-loop-place
-invariant-loop-place g l = g.S.Shelf.meaning l.shelf ≡ front (g.S.Shelf.meaning l.initial.shelf) (l.place - 1)
+-- the first places are empty
+abbrev pub invariant-loop-before : goal.invariant-loop-before
+invariant-loop-before g l =
+    let s = g.S.Shelf.meaning l.initial.shelf in
+    g.S.Shelf.meaning l.shelf ≡ record { n = s.n; rows = replicate l.before None ++ drop l.before s.rows }

@@ -1,7 +1,10 @@
 use Rattle.std.proofs.Common.{◌≡◌}
-use Rattle.shelf.specs.Meaning.{mark_of_place}
-use Rattle.shelf.proofs.Walks.{sought}
+use Rattle.parts.specs.Lists.{at_place, then_at}
+use Rattle.shelf.specs.Meaning.{row_of, mark_of_place}
+use Rattle.shelf.proofs.Walks.{left_from}
 use Rattle.shelf.proofs.Shelf.mark.Given as goal
 
+-- so many marks are left to pass from the part on
 abbrev pub invariant-loop-part : goal.invariant-loop-part
-invariant-loop-part g l = sought (g.Self.Shelf.meaning l.self) l.place l.part l.left ≡ mark_of_place (g.Self.Shelf.meaning l.self) l.place l.k
+invariant-loop-part g l =
+    then_at (row_of (g.Self.Shelf.meaning l.self) l.place) (λ row. at_place (left_from l.part row) l.left) ≡ mark_of_place (g.Self.Shelf.meaning l.self) l.place l.k

@@ -1,5 +1,4 @@
-use Rattle.std.proofs.Common.{◌≡◌, ◌-◌}
-use Rattle.std.specs.List.{slice_get}
+use Rattle.std.proofs.Common.{◌≡◌, ◌-◌, slice_get}
 use Rattle.bays.specs.Meaning.{pairs}
 use Rattle.bays.proofs.spots.Bay.pair_at.Given as goal
 

@@ -1,10 +1,10 @@
-use Rattle.std.proofs.Common.{◌≡◌, ◌+◌, ◌-◌, ◌≤◌}
+use Rattle.std.proofs.Common.{◌≡◌, ◌≤◌}
 use Rattle.grammar.specs.Reading.{rules_of}
 use Rattle.reading.specs.Checks.{passed}
 use Rattle.reading.specs.Pieces.{lines_left, text_end}
 use Rattle.reading.proofs.head.Head.check_lines.Given as goal
 
-abbrev pub invariant-loop-rule : goal.invariant-loop-rule
-invariant-loop-rule l =
+abbrev pub invariant-loop-done : goal.invariant-loop-done
+invariant-loop-done l =
     let reads = rules_of l.room (text_end l.self.rules) l.self.size.m in
-    (l.used ≤ 16000) × (l.rule ≤ l.self.size.m + 1) × (passed (reads (l.rule - 1) l.used (lines_left l.lines)) ≡ passed (reads 0 0 (lines_left l.self.rules)))
+    (l.used ≤ 16000) × (passed (reads l.done l.used (lines_left l.lines)) ≡ passed (reads 0 0 (lines_left l.self.rules)))
