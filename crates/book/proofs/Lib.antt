@@ -1,3 +1,3 @@
-pub mod Rules
 mod Spans
 pub mod TableLaws
+pub mod ChoiceLaws

@@ -1,16 +1,18 @@
 -- Where a rule's marks begin and end, by the ends of the rule before and of its own.
-use Rattle.std.proofs.Common.{◌≡◌, ℕ, zero, suc, ◌+◌, ◌-◌, ◌<◌, ◌≤◌, min, true, false, ◌&&◌, nat_le, List, [], ◌∷◌, map, length, get_or, take, drop, ℤ, Some, None, vec_items, sym, refl, ap, ◌∙◌, arith, length-take}
+use Rattle.std.proofs.Common.{◌≡◌, ℕ, zero, suc, ◌+◌, ◌-◌, ◌<◌, ◌≤◌, true, false, ◌&&◌, nat_le, List, [], ◌∷◌, map, length, get_or, take, drop, ℤ, Some, None, vec_items, sym, refl, ap, ◌∙◌, arith, length-take}
 use Rattle.std.specs.Option.{option_map, unwrap_or}
 use Rattle.std.specs.List.{slice_get}
 use Rattle.std.specs.List.Sorted.{IsNonDecreasing}
 use Rattle.std.proofs.lemmas.List.{at_drop_more, get_or-take, length-map, take-map, drop-map}
 use Rattle.std.proofs.lemmas.Option.{slice_get-map, slice_get_past, unwrap_or-slice_get}
 use Rattle.std.proofs.lemmas.Bool.Decides.{nat_tests}
-use Rattle.parts.specs.declared.Mark.{Mark}
+use Rattle.parts.specs.declared.mark.Mark.{Mark}
 use Rattle.parts.specs.Lists.{at_place}
 use Rattle.book.specs.Meaning.{Rule, mark_of, sound_rule, sound_rules}
-use Rattle.book.specs.Tables.{mark_from, cut, laid_rules, rising}
-use Rattle.book.specs.Laying.{Laid, laid_from, length_cut}
+use Rattle.parts.specs.Marks.{mark_from}
+use Rattle.book.specs.Tables.{cut, book_in, rising, marks_limit}
+use Rattle.book.specs.Makes.{text_book}
+use Rattle.book.specs.Proved.{BookParts, book_parts, length-cut}
 use Rattle.book.specs.declared.text.TextBook.{TextBook}
 
 -- an end, the one before, and those after
@@ -70,8 +72,8 @@ spans_at limit from (e ∷ es) ms zero l h i = grind (arith, rising_step limit f
 spans_at limit from (e ∷ es) ms (suc k) l h i = grind (arith, rising_step limit from e es, spans_at limit e es ms k)
 
 -- what a book keeps
-pub kept : (b : TextBook) → Laid b.n b.rules (vec_items b.tables.marks) (vec_items b.tables.ends)
-kept b = laid_from _ _ _ _ b.laid
+pub kept : (b : TextBook) → BookParts b.n b.rules (vec_items b.tables.marks) (vec_items b.tables.ends)
+kept b = book_parts _ _ _ _ b.whole
 
 -- the ends that count, after 0
 used_end : (m k : ℕ) (es : List ℕ) → k ≤ m → get_or (0 ∷ take m es) k 0 ≡ get_or (0 ∷ es) k 0
@@ -81,23 +83,23 @@ used_end m k es l = get_or-take (suc m) (0 ∷ es) k 0 (omega arith)
 pub record Cut (b : TextBook) (rule from to : ℕ) : Type 0 where
   pub rises : from ≤ to
   pub within : to ≤ length (vec_items b.tables.marks)
-  pub cuts : at_place (laid_rules b.n b.rules (vec_items b.tables.marks) (vec_items b.tables.ends)).rules rule ≡ Some (map mark_from (take (to - from) (drop from (vec_items b.tables.marks))))
+  pub cuts : at_place (text_book b).rules rule ≡ Some (map mark_from (take (to - from) (drop from (vec_items b.tables.marks))))
 
 pub cut_at : (b : TextBook) (rule : ℕ) → (rule ≡ 0 → ⊥) → rule ≤ b.rules → Cut b rule (get_or (0 ∷ vec_items b.tables.ends) (rule - 1) 0) (get_or (0 ∷ vec_items b.tables.ends) rule 0)
 cut_at b zero h l = grind arith
 cut_at b (suc k) h l =
     let marks = vec_items b.tables.marks in
     let ends = vec_items b.tables.ends in
-    let s = spans_at (min 16000 (length marks)) 0 (take b.rules ends) (map mark_from marks) k in
+    let s = spans_at (marks_limit (length marks)) 0 (take b.rules ends) (map mark_from marks) k in
     grind (arith, s, kept b, length-map marks mark_from, length-take b.rules ends, used_end b.rules k ends, used_end b.rules (suc k) ends l, drop-map, take-map)
 
-pub rules_counted : (b : TextBook) → length (laid_rules b.n b.rules (vec_items b.tables.marks) (vec_items b.tables.ends)).rules ≡ b.rules
-rules_counted b = let n = (kept b).rules_ended in simp (length_cut, length-take) (omega arith)
+pub rules_counted : (b : TextBook) → length (text_book b).rules ≡ b.rules
+rules_counted b = let n = (kept b).rules_ended in simp (length-cut, length-take) (omega arith)
 
 -- a number that no rule of the book has
-pub no_rule : (b : TextBook) (rule : ℕ) → (1 ≤ rule → b.rules < rule) → at_place (laid_rules b.n b.rules (vec_items b.tables.marks) (vec_items b.tables.ends)).rules rule ≡ None
+pub no_rule : (b : TextBook) (rule : ℕ) → (1 ≤ rule → b.rules < rule) → at_place (text_book b).rules rule ≡ None
 no_rule b zero h = refl
-no_rule b (suc k) h = grind (arith, rules_counted b, slice_get_past (laid_rules b.n b.rules (vec_items b.tables.marks) (vec_items b.tables.ends)).rules k)
+no_rule b (suc k) h = grind (arith, rules_counted b, slice_get_past (text_book b).rules k)
 
 -- a mark of a rule by its place
 pub mark_at : (rules : List Rule) (rule place : ℕ) (numbers : List ℤ) → at_place rules rule ≡ Some (map mark_from numbers) → (place ≡ 0 → ⊥) → mark_of rules rule place ≡ option_map mark_from (slice_get numbers (place - 1))

@@ -1,12 +1,14 @@
 -- Tables filled from a list of rules, whatever stands after them: a book may be laid over them, and it is these rules.
-use Rattle.std.proofs.Common.{◌≡◌, ℕ, suc, ◌+◌, ◌-◌, ◌≤◌, min, true, List, [], ◌∷◌, ◌++◌, map, length, ℤ, refl, ap, ◌∙◌, arith, length-append}
+use Rattle.std.proofs.Common.{◌≡◌, ℕ, suc, ◌+◌, ◌-◌, ◌≤◌, true, List, [], ◌∷◌, ◌++◌, map, length, ℤ, refl, ap, ◌∙◌, arith, length-append}
 use Rattle.std.proofs.lemmas.List.{append_assoc, map-append, length-map, take_at, drop_at}
 use Rattle.std.proofs.lemmas.Bool.Decides.{nat_tests}
 use Rattle.std.proofs.lemmas.Bool.{and_from, le-leb}
-use Rattle.parts.specs.declared.Mark.{Mark}
-use Rattle.parts.specs.declared.Side.{Side}
+use Rattle.parts.specs.declared.mark.Mark.{Mark}
+use Rattle.parts.specs.declared.side.Side.{Side}
 use Rattle.book.specs.Meaning.{Rule, count_marks, sound_rule, sound_rules}
-use Rattle.book.specs.Tables.{mark_from, on_side, number_from, cut, laid_rules, rising, lays, mark_table, end_table}
+use Rattle.parts.specs.declared.limits.TheConstants.{MOST_PARTS, MOST_TEXT_RULES, MOST_TEXT_MARKS}
+use Rattle.parts.specs.Marks.{mark_from, on_side, number_from}
+use Rattle.book.specs.Tables.{cut, book_in, rising, marks_limit, has_book, mark_table, end_table}
 
 -- a mark comes back from its number, unless it is part 0 out
 mark_back : (s : Side) (p : ℕ) → 1 ≤ p → mark_from (on_side s p) ≡ record { part = p; side = s }
@@ -46,12 +48,12 @@ cut_back n from before (r ∷ rs) marks' l h =
       cut_back n (from + length r) (before ++ r) rs marks',
     )
 
-pub laid_filled : (n : ℕ) (rs : List Rule) (marks' : List ℤ) (ends' : List ℕ) → sound_rules n rs ≡ true → laid_rules n (length rs) (mark_table rs ++ marks') (end_table 0 rs ++ ends') ≡ record { n = n; rules = rs }
-laid_filled n rs marks' ends' h = rw (take_at (end_table 0 rs) ends' (length rs) (length_ends 0 rs), cut_back n 0 [] rs marks' refl h)
+pub book_in_filled : (n : ℕ) (rs : List Rule) (marks' : List ℤ) (ends' : List ℕ) → sound_rules n rs ≡ true → book_in n (length rs) (mark_table rs ++ marks') (end_table 0 rs ++ ends') ≡ record { n = n; rules = rs }
+book_in_filled n rs marks' ends' h = rw (take_at (end_table 0 rs) ends' (length rs) (length_ends 0 rs), cut_back n 0 [] rs marks' refl h)
 
-pub lays_filled : (n : ℕ) (rs : List Rule) (marks' : List ℤ) (ends' : List ℕ) → 1 ≤ n → n ≤ 120 → length rs ≤ 4000 → count_marks rs ≤ 16000 → sound_rules n rs ≡ true → lays n (length rs) (mark_table rs ++ marks') (end_table 0 rs ++ ends') ≡ true
-lays_filled n rs marks' ends' some few rules_few marks_few h =
-    let limit = min 16000 (length (mark_table rs ++ marks')) in
+pub has_book_filled : (n : ℕ) (rs : List Rule) (marks' : List ℤ) (ends' : List ℕ) → 1 ≤ n → n ≤ MOST_PARTS → length rs ≤ MOST_TEXT_RULES → count_marks rs ≤ MOST_TEXT_MARKS → sound_rules n rs ≡ true → has_book n (length rs) (mark_table rs ++ marks') (end_table 0 rs ++ ends') ≡ true
+has_book_filled n rs marks' ends' some few rules_few marks_few h =
+    let limit = marks_limit (length (mark_table rs ++ marks')) in
     let room : count_marks rs ≤ limit = simp (length-append, length_marks) (omega arith) in
     let ended : length rs ≤ length (end_table 0 rs ++ ends') = simp (length-append, length_ends) (omega arith) in
-    grind (arith, nat_tests, ends_rise limit 0 rs, laid_filled n rs marks' ends' h, take_at (end_table 0 rs) ends' (length rs) (length_ends 0 rs))
+    grind (arith, nat_tests, ends_rise limit 0 rs, book_in_filled n rs marks' ends' h, take_at (end_table 0 rs) ends' (length rs) (length_ends 0 rs))

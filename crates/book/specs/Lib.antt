@@ -1,4 +1,6 @@
 pub mod Meaning
+pub mod Choices
 pub mod Tables
-pub mod Laying
 pub mod Joining
+pub mod Proved
+pub mod Makes

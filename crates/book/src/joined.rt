@@ -1,51 +1,59 @@
-// Two books joined: the first's rules before the second's.
-ghost use Rattle.std.specs.Prelude.{◌≡◌, true, false, MatchResult};
-ghost use Rattle.book.specs.Joining.{joinable, why_not, both_rules, joined_sound};
+//! Two books joined: the first's rules before the second's.
+ghost use Rattle.std.specs.Prelude.{◌≡◌, IsTrue, IsFalse, MatchResult};
+ghost use Rattle.book.specs.Joining.{joinable, join_refusal, both_rules};
 
 use crate::Book;
-use parts::Mark;
 use parts::limits::MOST_RULES;
-use parts::refusals::{Refusal, Refused};
+use parts::{Mark, Refusal, Refused};
 
-// Two books as one (a conjunction); either may be a joined one.
+/// Two books as one (a conjunction); either may be a joined one.
 #[derive(Drop)]
 pub struct Joined<F: Book, S: Book> {
     first: F,
     second: S,
-    ghost fit: { joinable (F.meaning first) (S.meaning second) ≡ true },
-}
-
-// Joins two books of as many parts, with at most 20,000 rules together.
-pub fn join<F: Book, S: Book>(first: F, second: S) -> Result<Joined<F, S>, Refused<(F, S)>>
-    ensures { MatchResult result (λ j. (joinable (F.meaning first) (S.meaning second) ≡ true) × (j.first ≡ first) × (j.second ≡ second) × (⟦<Joined<F, S> as Book>⟧.meaning j ≡ both_rules (F.meaning first) (S.meaning second))) (λ e. (joinable (F.meaning first) (S.meaning second) ≡ false) × (e ≡ record { refusal = why_not (F.meaning first) (S.meaning second); back = (first, second) })) }
-{
-    if first.n() != second.n() {
-        return Err(Refused {
-            refusal: Refusal::JoinPartsDiffer,
-            back: (first, second),
-        });
-    }
-    if first.rules() + second.rules() > MOST_RULES {
-        return Err(Refused {
-            refusal: Refusal::JoinTooManyRules,
-            back: (first, second),
-        });
-    }
-    Ok(Joined { first, second })
+    ghost fit: { IsTrue (joinable (F.meaning first) (S.meaning second)) },
 }
 
 impl<F: Book, S: Book> Joined<F, S> {
-    // Both books, as they were joined.
+    ghost use Rattle.book.specs.Makes.{books_of, joined_book};
+
+    /// Joins two books: the first's rules come before the second's.
+    /// Refused with 11 where they differ in n, else with 12 where they have more than 20,000 rules together; both books then come back.
+    pub fn new(first: F, second: S) -> Result<Joined<F, S>, Refused<(F, S)>>
+        ensures joined { MatchResult result (λ j. IsTrue (joinable (F.meaning first) (S.meaning second))) (λ e. IsFalse (joinable (F.meaning first) (S.meaning second))) }
+        ensures value { MatchResult result
+            (λ j. (books_of j ≡ (first, second)) × (joined_book j ≡ both_rules (F.meaning first) (S.meaning second)))
+            (λ e. e ≡ record { refusal = join_refusal (F.meaning first) (S.meaning second); back = (first, second) }) }
+    {
+        if first.n() != second.n() {
+            return Err(Refused {
+                refusal: Refusal::JoinPartsDiffer,
+                back: (first, second),
+            });
+        }
+        if first.rules() + second.rules() > MOST_RULES {
+            return Err(Refused {
+                refusal: Refusal::JoinTooManyRules,
+                back: (first, second),
+            });
+        }
+        Ok(Joined { first, second })
+    }
+
+    /// Both books, as they were joined.
     pub fn into_books(self) -> (F, S)
-        ensures { result ≡ (self.first, self.second) }
+        ensures { result ≡ books_of self }
     {
         (self.first, self.second)
     }
 }
 
-// The rules up to the first's count are the first's, and the others the second's.
+/// The rules up to the first's count are the first's, and the others the second's.
 impl<F: Book, S: Book> Book for Joined<F, S> {
-    ghost meaning = { λ j. both_rules (F.meaning j.first) (S.meaning j.second) };
+    ghost use Rattle.book.specs.Makes.{joined_book};
+    ghost use Rattle.book.specs.Proved.{joined_sound};
+
+    ghost meaning = { joined_book };
 
     ghost sound = { λ j. joined_sound (F.meaning j.first) (S.meaning j.second) j.fit (F.sound j.first) (S.sound j.second) };
 

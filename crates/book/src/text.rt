@@ -1,18 +1,18 @@
-// A book laid over two tables: marks as signed numbers, and where each rule's marks end.
-ghost use Rattle.std.specs.Prelude.{◌≡◌, ◌≤◌, min, true, false, ◌∷◌, map, length, slice_index, MatchResult};
+//! A book over two tables: marks as signed numbers, and where each rule's marks end.
+ghost use Rattle.std.specs.Prelude.{◌≡◌, ◌≤◌, IsTrue, IsFalse, ◌∷◌, map, length, slice_index, MatchResult};
 ghost use Rattle.std.specs.Option.{option_map};
-ghost use Rattle.parts.specs.declared.refusals.Refusal.TheVariants.{NotABook};
+ghost use Rattle.parts.specs.declared.refusal.Refusal.TheVariants.{NotABook};
+ghost use Rattle.parts.specs.Distinct.{names};
 ghost use Rattle.parts.specs.Lists.{at_place};
-ghost use Rattle.book.specs.Meaning.{names, sound_rule, sound_rules};
-ghost use Rattle.book.specs.Tables.{mark_from, cut, rising, lays, laid_rules};
-ghost use Rattle.book.specs.Laying.{laid_sound};
+ghost use Rattle.parts.specs.Marks.{mark_from};
+ghost use Rattle.book.specs.Meaning.{sound_rule, sound_rules};
+ghost use Rattle.book.specs.Tables.{cut, rising, marks_limit, has_book, book_in};
 
 use crate::Book;
-use parts::Mark;
 use parts::limits::{MOST_PARTS, MOST_TEXT_MARKS, MOST_TEXT_RULES};
-use parts::refusals::{Refusal, Refused};
+use parts::{Mark, Refusal, Refused};
 
-// The two tables of a book.
+/// The two tables of a book.
 // Stays two tables of numbers: callers fill them and take them back, so their layout is promised.
 #[derive(Drop)]
 pub struct Tables {
@@ -20,22 +20,28 @@ pub struct Tables {
     pub ends: Vec<u16>,
 }
 
-// A book laid over two tables that it owns.
+/// A book over two tables that it owns.
 #[derive(Drop)]
 pub struct TextBook {
     n: usize,
     // Stays a count beside the table of ends: the entries after these are the caller's, and come back as they were.
     rules: usize,
     tables: Tables,
-    ghost laid: { lays n rules tables.marks.items tables.ends.items ≡ true },
+    ghost whole: { IsTrue (has_book n rules tables.marks.items tables.ends.items) },
 }
 
 impl TextBook {
-    // Lays a book of n parts over the tables, its rules cut by the first ends; what stands after them is never read.
-    pub fn lay(n: usize, rules: usize, tables: Tables) -> Result<TextBook, Refused<Tables>>
-        ensures { MatchResult result (λ b. (lays n rules tables.marks.items tables.ends.items ≡ true) × (b.n ≡ n) × (b.rules ≡ rules) × (b.tables ≡ tables)) (λ e. (lays n rules tables.marks.items tables.ends.items ≡ false) × (e ≡ record { refusal = NotABook; back = tables })) }
+    ghost use Rattle.book.specs.Makes.{tables_of, text_book};
+
+    /// A book of n parts over the tables, its rules cut by the first ends; what stands after them is never read.
+    /// Refused with 10, and the tables come back, where they have no such book.
+    pub fn new(n: usize, rules: usize, tables: Tables) -> Result<TextBook, Refused<Tables>>
+        ensures made { MatchResult result (λ _. IsTrue (has_book n rules tables.marks.items tables.ends.items)) (λ _. IsFalse (has_book n rules tables.marks.items tables.ends.items)) }
+        ensures value { MatchResult result
+            (λ b. (text_book b ≡ book_in n rules tables.marks.items tables.ends.items) × (tables_of b ≡ tables))
+            (λ e. e ≡ record { refusal = NotABook; back = tables }) }
     {
-        if !can_lay(n, rules, &tables) {
+        if !has_book(n, rules, &tables) {
             return Err(Refused {
                 refusal: Refusal::NotABook,
                 back: tables,
@@ -44,9 +50,9 @@ impl TextBook {
         Ok(TextBook { n, rules, tables })
     }
 
-    // The two tables, as they were laid.
+    /// The two tables, as they were given.
     pub fn into_tables(self) -> Tables
-        ensures { result ≡ self.tables }
+        ensures { result ≡ tables_of self }
     {
         self.tables
     }
@@ -54,7 +60,7 @@ impl TextBook {
     // The marks of a rule, as they stand in the table; nothing where there is no such rule.
     #[tactic(auto, using(crate::proofs::Spans::cut_at, crate::proofs::Spans::no_rule))]
     fn numbers(&self, rule: usize) -> Option<&[i16]>
-        ensures { option_map (λ numbers. map mark_from numbers.now) result ≡ at_place (laid_rules self.now.n self.now.rules self.now.tables.marks.items self.now.tables.ends.items).rules rule }
+        ensures { option_map (λ numbers. map mark_from numbers.now) result ≡ at_place (text_book self.now).rules rule }
     {
         if rule == 0 || rule > self.rules {
             return None;
@@ -75,11 +81,14 @@ impl TextBook {
     }
 }
 
-// The book's rules are cut from the marks by the ends; each answer is one look-up.
+/// The book's rules are cut from the marks by the ends; each answer is one look-up.
 impl Book for TextBook {
-    ghost meaning = { λ b. laid_rules b.n b.rules b.tables.marks.items b.tables.ends.items };
+    ghost use Rattle.book.specs.Makes.{text_book};
+    ghost use Rattle.book.specs.Proved.{book_in_sound};
 
-    ghost sound = { λ b. laid_sound b.n b.rules b.tables.marks.items b.tables.ends.items b.laid };
+    ghost meaning = { text_book };
+
+    ghost sound = { λ b. book_in_sound b.n b.rules b.tables.marks.items b.tables.ends.items b.whole };
 
     fn n(&self) -> usize {
         self.n
@@ -100,9 +109,9 @@ impl Book for TextBook {
     }
 }
 
-// Whether a book of n parts may be laid over the tables.
-fn can_lay(n: usize, rules: usize, tables: &Tables) -> bool
-    ensures { result ≡ lays n rules tables.now.marks.items tables.now.ends.items }
+// Whether the tables have a book of n parts and so many rules.
+fn has_book(n: usize, rules: usize, tables: &Tables) -> bool
+    ensures { result ≡ has_book n rules tables.now.marks.items tables.now.ends.items }
 {
     if n == 0 || n > MOST_PARTS || rules > MOST_TEXT_RULES || rules > tables.ends.len() {
         return false;
@@ -122,7 +131,7 @@ fn ends_rise(ends: &[u16], limit: usize) -> bool
 // Whether each rule that the ends cut from the marks is sound.
 #[tactic(auto, using(crate::proofs::Spans::rising_more, crate::proofs::Spans::rules_drop))]
 fn rules_sound(n: usize, marks: &[i16], ends: &[u16]) -> bool
-    requires { rising (min 16000 (length marks.now)) 0 ends.now ≡ true }
+    requires { IsTrue (rising (marks_limit (length marks.now)) 0 ends.now) }
     ensures { result ≡ sound_rules n (cut 0 ends.now (map mark_from marks.now)) }
 {
     // Stays a for: an `all` would carry in its closure where each rule begins.

@@ -1,0 +1,4 @@
+pub mod Tally
+pub mod Among
+pub mod DistinctLaws
+pub mod RowWords

@@ -1,8 +1,8 @@
 -- Codes and rows of codes: 0 open (or not named), 1 in, 2 out.
-use Rattle.std.specs.Prelude.{ℕ, Bool, cond, ◌&&◌, List, length, Some, None, codes, Option, ◌==◌, nat_le}
+use Rattle.std.specs.Prelude.{ℕ, Bool, if◌then◌else◌, ◌&&◌, List, length, Some, None, codes, Option, ◌==◌, nat_le}
 use Rattle.std.specs.List.{list_all}
-use Rattle.parts.specs.declared.Side.{Side}
-use Rattle.parts.specs.declared.Side.TheVariants.{In, Out}
+use Rattle.parts.specs.declared.side.Side.{Side}
+use Rattle.parts.specs.declared.side.Side.TheVariants.{In, Out}
 
 -- a side's code
 abbrev pub code_of : Side → ℕ
@@ -16,7 +16,7 @@ side_text Out = codes "out"
 
 -- the side that a code stands for
 abbrev pub side_of : ℕ → Option Side
-side_of c = cond (c == 1) (Some In) (cond (c == 2) (Some Out) None)
+side_of c = if c == 1 then Some In else (if c == 2 then Some Out else None)
 
 -- each is 0, 1 or 2
 abbrev pub all_codes : List ℕ → Bool

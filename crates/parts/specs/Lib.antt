@@ -3,3 +3,4 @@ pub mod Codes
 pub mod Marks
 pub mod Numbers
 pub mod Rows
+pub mod Distinct

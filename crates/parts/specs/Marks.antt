@@ -1,8 +1,8 @@
 -- Marks: a part and the side that it is put on.
 use Rattle.std.specs.Prelude.{ℕ, suc, ℤ, pos, negsuc, neg_ℤ}
-use Rattle.parts.specs.declared.Mark.{Mark}
-use Rattle.parts.specs.declared.Side.{Side}
-use Rattle.parts.specs.declared.Side.TheVariants.{In, Out}
+use Rattle.parts.specs.declared.mark.Mark.{Mark}
+use Rattle.parts.specs.declared.side.Side.{Side}
+use Rattle.parts.specs.declared.side.Side.TheVariants.{In, Out}
 
 -- 7 is part 7 in, -7 is part 7 out
 abbrev pub mark_from : ℤ → Mark

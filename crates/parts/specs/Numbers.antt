@@ -1,11 +1,11 @@
 -- The number of each refusal, the one place where the list's numbers stand; and how refusals and faults are printed.
 use Rattle.std.specs.Prelude.{ℕ, List, ◌∷◌, ◌++◌, decimal}
-use Rattle.parts.specs.declared.refusals.Fault.{Fault}
-use Rattle.parts.specs.declared.refusals.Refusal.{Refusal}
-use Rattle.parts.specs.declared.refusals.Refusal.TheVariants.{TextTooLong, NoHead, SizeOutOfRange, MalformedRule, PartAboveN, PartNamedTwice, TableFull, RuleCount}
-use Rattle.parts.specs.declared.refusals.Refusal.TheVariants.{NotWritable, NotABook, JoinPartsDiffer, JoinTooManyRules, NotAShelf, NotAPicker}
-use Rattle.parts.specs.declared.refusals.Refusal.TheVariants.{OpenPartsDiffer, ForgettingOutOfRange, PartOutOfRange, NoSide, AlreadyHeld, NotHeld, BudgetOutOfRange, StepsOutOfRange, RowLength, NoSuchVerdict, ShelfOutOfRange}
-use Rattle.parts.specs.declared.refusals.Refusal.TheVariants.{MalformedSheet, SheetOutOfOrder}
+use Rattle.parts.specs.declared.fault.Fault.{Fault}
+use Rattle.parts.specs.declared.refusal.Refusal.{Refusal}
+use Rattle.parts.specs.declared.refusal.Refusal.TheVariants.{TextTooLong, NoHead, SizeOutOfRange, MalformedRule, PartAboveN, PartNamedTwice, TableFull, RuleCount}
+use Rattle.parts.specs.declared.refusal.Refusal.TheVariants.{NotWritable, NotABook, JoinPartsDiffer, JoinTooManyRules, NotAShelf, NotAPicker}
+use Rattle.parts.specs.declared.refusal.Refusal.TheVariants.{OpenPartsDiffer, ForgettingOutOfRange, PartOutOfRange, NoSide, AlreadyHeld, NotHeld, BudgetOutOfRange, StepsOutOfRange, RowLength, NoSuchVerdict, ShelfOutOfRange}
+use Rattle.parts.specs.declared.refusal.Refusal.TheVariants.{MalformedSheet, SheetOutOfOrder}
 
 abbrev pub number_of : Refusal → ℕ
 number_of TextTooLong = 1

@@ -1,6 +1,6 @@
 use Rattle.std.proofs.Common.{◌≡◌, map, length}
 use Rattle.book.specs.Meaning.{sound_rule}
-use Rattle.book.specs.Tables.{mark_from}
+use Rattle.parts.specs.Marks.{mark_from}
 use Rattle.book.proofs.text.rule_sound.Given as goal
 
 abbrev pub invariant-loop-number : goal.invariant-loop-number

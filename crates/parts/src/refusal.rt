@@ -1,10 +1,11 @@
-// Every refusal of the bench, and the fault that a reading passes up.
+//! Every refusal of the bench.
 ghost use Rattle.std.specs.Prelude.{◌≡◌, Some};
-ghost use Rattle.parts.specs.Numbers.{number_of, refusal_text, fault_text};
+ghost use Rattle.parts.specs.Numbers.{number_of, refusal_text};
 
+use std::error::Error;
 use std::fmt;
 
-// Why a call is refused. Where several apply, the first of this list is told, unless a call's own order says otherwise.
+/// Why a call is refused. Where several apply, the first of this list is told, unless a call's own order says otherwise.
 #[derive(Clone, Copy, Debug, PartialEq, Eq)]
 pub enum Refusal {
     // A book's text.
@@ -41,7 +42,7 @@ pub enum Refusal {
     SheetOutOfOrder = 27,
 }
 
-// The refusal's number, as it is printed.
+/// The refusal's number, as it is printed.
 impl From<Refusal> for u8 {
     ghost from_gives = { λ refusal number. number ≡ number_of refusal };
 
@@ -58,27 +59,11 @@ impl fmt::Display for Refusal {
     }
 }
 
-// Why a call was refused, and what it was given, as it was.
+impl Error for Refusal {}
+
+/// Why a call was refused, and what it was given, as it was.
 #[derive(Drop)]
 pub struct Refused<T> {
     pub refusal: Refusal,
     pub back: T,
-}
-
-// Where a reading was refused: which refusal, its byte from 0, and the rule being read.
-#[derive(Clone, Copy, Debug, PartialEq, Eq)]
-pub struct Fault {
-    pub refusal: Refusal,
-    pub byte: usize,
-    // Stays 0 in the head: it is a number of the list's format, and an Option would be turned into it wherever a fault is told.
-    pub rule: usize,
-}
-
-// Number, byte and rule, parted by tabs.
-impl fmt::Display for Fault {
-    ghost output = { λ fault. Some (fault_text fault) };
-
-    fn fmt<W: fmt::Write>(&self, f: &mut fmt::Formatter<W>) -> fmt::Result {
-        write!(f, "{}\t{}\t{}", self.refusal, self.byte, self.rule)
-    }
 }

@@ -3,7 +3,7 @@ use Rattle.std.specs.Prelude.{nat_le}
 use Rattle.std.proofs.lemmas.Iterator.{YieldsList-from_slice}
 use Rattle.std.proofs.lemmas.Iterator.Search.{all_from_yields_List}
 use Rattle.std.proofs.lemmas.Bool.Decides.{nat_tests}
-use Rattle.parts.proofs.is_row.Goals as goal
+use Rattle.parts.proofs.row.is_row.Goals as goal
 
 pub returns-then-codes-n : goal.returns-then-codes-n
 returns-then-codes-n c =
