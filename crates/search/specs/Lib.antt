@@ -1,7 +1,6 @@
 pub mod Trail
 pub mod Machine
+pub mod Bounds
 pub mod Calls
 pub mod Law
-pub mod History
-pub mod Histories
 pub mod Words

@@ -1,44 +1,45 @@
 -- The trail, the settled row, and how marks and rules stand under it.
-use Rattle.std.specs.Prelude.{ℕ, zero, suc, ◌-◌, Bool, true, false, cond, List, [], ◌∷◌, map, Some, None, Option, ◌==◌, slice_set}
-use Rattle.parts.specs.Codes.{code_of, side_of}
-use Rattle.parts.specs.declared.Mark.{Mark}
-use Rattle.parts.specs.declared.Side.{Side}
-use Rattle.parts.specs.declared.Side.TheVariants.{In, Out}
-use Rattle.parts.specs.Lists.{at_place, then_at}
+use Rattle.std.specs.Prelude.{ℕ, ◌-◌, Bool, true, false, if◌then◌else◌, List, [], ◌∷◌, map, Some, None, Option, ◌==◌, slice_index, slice_set}
+use Rattle.std.specs.List.{find, range_with_len}
+use Rattle.std.specs.Option.{option_and_then, option_map}
+use Rattle.parts.specs.Codes.{code_of}
+use Rattle.parts.specs.Rows.{Row}
+use Rattle.parts.specs.declared.mark.Mark.{Mark}
+use Rattle.parts.specs.declared.side.Side.{Side}
 use Rattle.book.specs.Meaning.{Rule}
-use Rattle.search.specs.declared.Entry.{Entry}
+use Rattle.search.specs.declared.entry.Entry.{Entry}
+use Rattle.search.specs.declared.entry.Kind.{Kind}
+use Rattle.search.specs.declared.entry.Kind.TheVariants.{Held, Picked, Forced}
+use Rattle.search.specs.declared.reason.Reason.{Reason}
 
 -- the settled parts, the newest entry first
 abbrev pub Trail : Type 0
 Trail = List Entry
 
--- a code for each part: 0 open or not named, 1 in, 2 out
-abbrev pub Row : Type 0
-Row = List ℕ
+-- the entry that settles a part
+abbrev pub entry_of : Trail → ℕ → Option Entry
+entry_of t p = find (λ e. e.mark.part == p) t
 
 -- the side on which the trail settles a part
 unfoldable pub settled : Trail → ℕ → Option Side
-settled [] p = None
-settled (e ∷ t) p = cond (e.mark.part == p) (Some e.mark.side) (settled t p)
+settled t p = option_map (λ e. e.mark.side) (entry_of t p)
+
+-- why a part is forced
+abbrev pub reason_in : Kind → Option Reason
+reason_in Held = None
+reason_in Picked = None
+reason_in (Forced r) = Some r
+
+unfoldable pub reason_of : Trail → ℕ → Option Reason
+reason_of t p = option_and_then (λ e. reason_in e.kind) (entry_of t p)
 
 abbrev pub code : Option Side → ℕ
 code None = 0
 code (Some s) = code_of s
 
--- k numbers from i on
-unfoldable pub from : ℕ → ℕ → List ℕ
-from i zero = []
-from i (suc k) = i ∷ from (suc i) k
-
--- the settled row of n parts
+-- the settled row of n parts: a code for each, 0 where it is open
 unfoldable pub row : ℕ → Trail → Row
-row n t = map (λ p. code (settled t p)) (from 1 n)
-
-abbrev pub same_side : Side → Side → Bool
-same_side In In = true
-same_side In Out = false
-same_side Out In = false
-same_side Out Out = true
+row n t = map (λ p. code (settled t p)) (range_with_len 1 n)
 
 -- A mark is true when its part is settled on its side, false when on the other, else open.
 pub data Truth : Type 0 where
@@ -46,12 +47,21 @@ pub data Truth : Type 0 where
   is_false : Truth
   is_open : Truth
 
-abbrev pub against : Side → Option Side → Truth
-against s None = is_open
-against s (Some v) = cond (same_side v s) is_true is_false
+abbrev pub truth_by : ℕ → Side → Truth
+truth_by c s = if c == 0 then is_open else (if c == code_of s then is_true else is_false)
 
-abbrev pub truth : Trail → Mark → Truth
-truth t m = against m.side (settled t m.part)
+abbrev pub truth : Row → Mark → Truth
+truth row m = truth_by (slice_index row (m.part - 1)) m.side
+
+abbrev pub says_false : Truth → Bool
+says_false is_true = false
+says_false is_false = true
+says_false is_open = false
+
+abbrev pub says_open : Truth → Bool
+says_open is_true = false
+says_open is_false = false
+says_open is_open = true
 
 -- A rule is broken when all its marks are false, pressing when all but one are false and that one is open.
 pub data State : Type 0 where
@@ -67,17 +77,9 @@ weigh is_open m broken = pressing m
 weigh is_open m (pressing x) = quiet
 weigh is_open m quiet = quiet
 
-unfoldable pub state : Trail → Rule → State
-state t [] = broken
-state t (m ∷ r) = weigh (truth t m) m (state t r)
-
--- whether a row names a mark
-abbrev pub is_side : Option Side → Side → Bool
-is_side None s = false
-is_side (Some v) s = same_side v s
-
-unfoldable pub names_mark : Row → Mark → Bool
-names_mark c m = is_side (then_at (at_place c m.part) side_of) m.side
+abbrev pub state : Row → Rule → State
+state row [] = broken
+state row (m ∷ r) = weigh (truth row m) m (state row r)
 
 -- the row with the marks of a rule written in, and the row without a part
 unfoldable pub enter : Row → Rule → Row

@@ -1,9 +1,10 @@
--- What a search tells, in words.
+-- How answers are printed.
 use Rattle.std.specs.Prelude.{ℕ, List, codes}
-use Rattle.search.specs.declared.Told.{Told}
-use Rattle.search.specs.declared.Told.TheVariants.{Fits, NoneFits, Spent}
+use Rattle.search.specs.declared.report.Answer.{Answer}
+use Rattle.search.specs.declared.report.Answer.TheVariants.{Fits, NoneFits, Spent}
 
-abbrev pub told_text : Told → List ℕ
-told_text Fits = codes "fits"
-told_text NoneFits = codes "none"
-told_text Spent = codes "spent"
+-- a word
+abbrev pub answer_text : Answer → List ℕ
+answer_text Fits = codes "fits"
+answer_text NoneFits = codes "none"
+answer_text Spent = codes "spent"
