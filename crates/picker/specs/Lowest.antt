@@ -5,7 +5,7 @@ use Rattle.std.proofs.Common.{sym, ◌∙◌, arith}
 use Rattle.std.proofs.lemmas.Bool.{and_parts, leb-true, ltb-true, eqb-true}
 use Rattle.std.proofs.lemmas.Bool.Decides.{nat_tests}
 use Rattle.std.proofs.lemmas.List.Sums.{passes_at_first}
-use Rattle.parts.specs.declared.Side.TheVariants.{Out}
+use Rattle.parts.specs.declared.side.Side.TheVariants.{Out}
 use Rattle.picker.specs.Meaning.{Picks, Free, Sound, some_open, a_size}
 
 -- the lowest open part of a row that has one

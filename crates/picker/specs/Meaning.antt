@@ -1,7 +1,7 @@
 -- What a picker means: n parts, and for each row with an open part the mark to settle next (a branching heuristic).
 use Rattle.std.specs.Prelude.{◌≡◌, ℕ, ◌-◌, ◌≤◌, Bool, true, cond, ◌&&◌, List, Some, None, Option, ◌==◌, nat_le, slice_index_or}
 use Rattle.std.specs.List.{list_any}
-use Rattle.parts.specs.declared.Mark.{Mark}
+use Rattle.parts.specs.declared.mark.Mark.{Mark}
 use Rattle.parts.specs.Codes.{is_row}
 
 pub record Picks : Type 0 where

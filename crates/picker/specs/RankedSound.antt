@@ -8,8 +8,8 @@ use Rattle.std.proofs.lemmas.List.Recursion.{and_at, and_from_places}
 use Rattle.std.proofs.lemmas.List.Sums.{sum_by-cons}
 use Rattle.std.proofs.lemmas.Bool.{and_parts, leb-true, eqb-true, eq-eqb, ne_eqb, cond_both, both_ways}
 use Rattle.std.proofs.lemmas.Bool.Decides.{eqb_tells}
-use Rattle.parts.specs.declared.Mark.{Mark}
-use Rattle.parts.specs.declared.Side.TheVariants.{Out}
+use Rattle.parts.specs.declared.mark.Mark.{Mark}
+use Rattle.parts.specs.declared.side.Side.TheVariants.{Out}
 use Rattle.parts.specs.Codes.{is_row, all_codes}
 use Rattle.picker.specs.Meaning.{Free, Sound, some_open, asks, a_size}
 use Rattle.picker.specs.Lowest.{lowest_open, lowest_free}

@@ -2,8 +2,8 @@
 use Rattle.std.specs.Prelude.{ℕ, ◌-◌, Bool, ◌&&◌, List, length, Option, ◌==◌, slice_index_or, count_by}
 use Rattle.std.specs.List.{list_all, range_with_len, find}
 use Rattle.std.specs.Option.{unwrap_or}
-use Rattle.parts.specs.declared.Mark.{Mark}
-use Rattle.parts.specs.declared.Side.TheVariants.{Out}
+use Rattle.parts.specs.declared.mark.Mark.{Mark}
+use Rattle.parts.specs.declared.side.Side.TheVariants.{Out}
 use Rattle.picker.specs.Meaning.{Picks, a_size}
 
 -- how many marks name a part

@@ -1,13 +1,14 @@
 // The picker of the lowest open part, out.
 ghost use Rattle.std.specs.Prelude.{◌≡◌, ◌==◌, true, false, position, MatchResult};
-ghost use Rattle.parts.specs.declared.refusals.Refusal.TheVariants.{NotAPicker};
+ghost use Rattle.parts.specs.declared.refusal.Refusal.TheVariants.{NotAPicker};
 ghost use Rattle.picker.specs.Meaning.{a_size};
 ghost use Rattle.picker.specs.Lowest.{lowest_picks, lowest_sound};
 
 use crate::Picker;
 use parts::limits::MOST_PARTS;
-use parts::refusals::Refusal;
-use parts::{Mark, Side, is_row};
+use parts::Refusal;
+use parts::{Mark, Side};
+use parts::row::is_row;
 
 // Picks the lowest open part, out.
 #[derive(Clone, Copy)]

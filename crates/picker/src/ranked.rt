@@ -1,14 +1,15 @@
 // The picker of the first open mark of a ranked list.
 ghost use Rattle.std.specs.Prelude.{◌≡◌, ◌≤◌, true, false, length, MatchResult};
 ghost use Rattle.std.specs.List.{AllByRecursion};
-ghost use Rattle.parts.specs.declared.refusals.Refusal.TheVariants.{NotAPicker};
+ghost use Rattle.parts.specs.declared.refusal.Refusal.TheVariants.{NotAPicker};
 ghost use Rattle.picker.specs.Ranking.{times, ranks, open_in, first_open, ranked_picks};
 ghost use Rattle.picker.specs.RankedSound.{Within, ranked_sound};
 
 use crate::Picker;
 use parts::limits::MOST_PARTS;
-use parts::refusals::{Refusal, Refused};
-use parts::{Mark, is_row};
+use parts::{Refusal, Refused};
+use parts::Mark;
+use parts::row::is_row;
 
 // Picks the first open mark of a list that it owns, which names each part once.
 #[derive(Drop)]

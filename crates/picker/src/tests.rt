@@ -2,7 +2,7 @@
 use crate::Picker;
 use crate::lowest::Lowest;
 use crate::ranked::Ranked;
-use parts::refusals::Refusal;
+use parts::Refusal;
 use parts::{Mark, Side};
 use std::process::Abort;
 use std::test::Fail;

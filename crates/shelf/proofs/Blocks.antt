@@ -3,15 +3,15 @@ use Rattle.std.proofs.Common.{◌≡◌, ℕ, zero, suc, ◌+◌, ◌-◌, ◌*�
 use Rattle.std.specs.Vec.{with_items}
 use Rattle.std.specs.List.{slice_get}
 use Rattle.std.specs.Prelude.{◌&&◌}
-use Rattle.std.specs.Option.{option_map}
+use Rattle.std.specs.Option.{option_map, option_and_then}
 use Rattle.std.proofs.lemmas.Grind.{common_steps}
 use Rattle.std.proofs.lemmas.List.Recursion.{and_at, and_set}
 use Rattle.std.proofs.lemmas.Option.{gets, slice_get-map, unwrap_or-slice_get}
 use Rattle.std.proofs.lemmas.Bool.Decides.{nat_tests}
 use Rattle.std.proofs.lemmas.Slice.{drop-put_mid}
 use Rattle.std.proofs.lemmas.List.{take-take, take-append-drop, drop-take, drop-drop, append_assoc, map-set, with_items_is, drop_at, length-replicate, get_or_past, replicate-append-replicate}
-use Rattle.parts.specs.declared.refusals.Refusal.TheVariants.{ShelfOutOfRange}
-use Rattle.parts.specs.Lists.{at_place, then_at}
+use Rattle.parts.specs.declared.refusal.Refusal.TheVariants.{ShelfOutOfRange}
+use Rattle.parts.specs.Lists.{at_place}
 use Rattle.shelf.specs.Meaning.{every, within, row_of, code_of_place, put}
 use Rattle.shelf.specs.declared.entry.Entry.{Ghosts}
 use Rattle.shelf.specs.declared.table.TableShelf.{TableShelf}
@@ -79,13 +79,13 @@ module _ {X : Type 0} {g : Ghosts X} (s : TableShelf X g) (place at : ℕ) (here
 
 -- what is told of a place, by its block
 module _ {X : Type 0} (row : List X → Option (List ℕ)) (n p : ℕ) (xs : List X) (place : ℕ) where
-  pub row_told : row_of (read_by row n p xs) place ≡ then_at (at_place (blocks (n + 1) p xs) place) row
+  pub row_told : row_of (read_by row n p xs) place ≡ option_and_then row (at_place (blocks (n + 1) p xs) place)
   row_told = grind (arith, unwrap_or-slice_get (map row (blocks (n + 1) p xs)) (place - 1) None, slice_get-map row (blocks (n + 1) p xs) (place - 1))
 
   pub no_row : within place p ≡ false → row_of (read_by row n p xs) place ≡ None
   no_row h = grind (arith, nat_tests, length_rows row n p xs, get_or_past (read_by row n p xs).rows (place - 1) None)
 
-  pub code_told : (part : ℕ) → code_of_place (read_by row n p xs) place part ≡ cond (within place p && within part n) (Ok (option_map (λ r. get_or r (part - 1) 0) (then_at (at_place (blocks (n + 1) p xs) place) row))) (Err ShelfOutOfRange)
+  pub code_told : (part : ℕ) → code_of_place (read_by row n p xs) place part ≡ cond (within place p && within part n) (Ok (option_map (λ r. get_or r (part - 1) 0) (option_and_then row (at_place (blocks (n + 1) p xs) place)))) (Err ShelfOutOfRange)
   code_told part = grind (arith, row_told, length_rows row n p xs)
 
 -- a table of one entry alone at its front has nothing on it, and is well formed

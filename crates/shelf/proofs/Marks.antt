@@ -3,9 +3,9 @@ use Rattle.std.proofs.Common.{◌≡◌, ℕ, zero, suc, ◌+◌, ◌-◌, ◌<�
 use Rattle.std.proofs.lemmas.Bool.Decides.{nat_tests}
 use Rattle.std.proofs.lemmas.List.{take_more, length-take-le, length-map}
 use Rattle.std.proofs.lemmas.Option.{slice_get-map, slice_get_past, slice_get-get_or}
-use Rattle.parts.specs.declared.Mark.{Mark}
-use Rattle.parts.specs.declared.Side.{Side}
-use Rattle.parts.specs.declared.Side.TheVariants.{In, Out}
+use Rattle.parts.specs.declared.mark.Mark.{Mark}
+use Rattle.parts.specs.declared.side.Side.{Side}
+use Rattle.parts.specs.declared.side.Side.TheVariants.{In, Out}
 use Rattle.parts.specs.Codes.{side_of, all_codes}
 use Rattle.parts.specs.Rows.{with_mark, marks_from}
 use Rattle.shelf.specs.Listed.{number_of, mark_from, rises, code_in, codes_by}

@@ -3,7 +3,7 @@ use Rattle.std.proofs.Common.{◌≡◌, ℕ, zero, suc, ◌+◌, ◌-◌, ◌�
 use Rattle.std.proofs.lemmas.List.{at_drop_more, drop_all, get_or_past}
 use Rattle.std.proofs.lemmas.Bool.Decides.{nat_tests}
 use Rattle.std.proofs.lemmas.List.Recursion.{and_at}
-use Rattle.parts.specs.declared.Mark.{Mark}
+use Rattle.parts.specs.declared.mark.Mark.{Mark}
 use Rattle.parts.specs.Codes.{side_of}
 use Rattle.parts.specs.Rows.{with_mark, marks_from}
 use Rattle.shelf.specs.declared.Shelf.{Ghosts}

@@ -5,9 +5,9 @@ use Rattle.std.proofs.lemmas.Bool.Decides.{nat_tests}
 use Rattle.std.specs.List.{find}
 use Rattle.std.specs.Option.{option_map, unwrap_or}
 use Rattle.std.proofs.Common.{arith}
-use Rattle.parts.specs.declared.Mark.{Mark}
-use Rattle.parts.specs.declared.Side.{Side}
-use Rattle.parts.specs.declared.Side.TheVariants.{In, Out}
+use Rattle.parts.specs.declared.mark.Mark.{Mark}
+use Rattle.parts.specs.declared.side.Side.{Side}
+use Rattle.parts.specs.declared.side.Side.TheVariants.{In, Out}
 use Rattle.parts.specs.Codes.{code_of, all_codes}
 use Rattle.parts.specs.Rows.{row_marks}
 use Rattle.shelf.specs.Meaning.{Shelved, Sound, every, sound_place}

@@ -1,11 +1,11 @@
 -- What a shelf means: n parts, and for each place a row of n codes or nothing (a store of learned clauses).
 use Rattle.std.specs.Prelude.{◌≡◌, ℕ, zero, suc, ◌-◌, ◌≤◌, Bool, true, cond, ◌&&◌, List, length, Some, None, Ok, Err, Option, Result, nat_le, slice_index, slice_index_or, slice_set}
 use Rattle.std.specs.List.{list_all}
-use Rattle.std.specs.Option.{option_map}
-use Rattle.parts.specs.Lists.{at_place, then_at}
-use Rattle.parts.specs.declared.Mark.{Mark}
-use Rattle.parts.specs.declared.refusals.Refusal.{Refusal}
-use Rattle.parts.specs.declared.refusals.Refusal.TheVariants.{ShelfOutOfRange}
+use Rattle.std.specs.Option.{option_map, option_and_then}
+use Rattle.parts.specs.Lists.{at_place}
+use Rattle.parts.specs.declared.mark.Mark.{Mark}
+use Rattle.parts.specs.declared.refusal.Refusal.{Refusal}
+use Rattle.parts.specs.declared.refusal.Refusal.TheVariants.{ShelfOutOfRange}
 use Rattle.parts.specs.Codes.{is_row}
 use Rattle.parts.specs.Rows.{row_marks}
 
@@ -51,7 +51,7 @@ abbrev pub marks_of_place : Shelved → ℕ → Option ℕ
 marks_of_place s place = option_map (λ row. length (row_marks row)) (row_of s place)
 
 abbrev pub mark_of_place : Shelved → ℕ → ℕ → Option Mark
-mark_of_place s place k = then_at (row_of s place) (λ row. at_place (row_marks row) k)
+mark_of_place s place k = option_and_then (λ row. at_place (row_marks row) k) (row_of s place)
 
 -- whether a row may be put at a place, and whether a place may be emptied
 abbrev pub can_write : Shelved → ℕ → List ℕ → Bool

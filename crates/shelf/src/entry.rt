@@ -1,9 +1,9 @@
 // How a place of a shelf stands in its block of n + 1 entries: what kind of entry they are, and how a row is laid and read.
 ghost use Rattle.std.specs.Prelude.{◌≡◌, ℕ, ◌+◌, ◌-◌, ◌<◌, ◌≤◌, Bool, true, List, ◌∷◌, ◌++◌, length, drop, Some, None, Option, slice_index};
-ghost use Rattle.std.specs.Option.{option_map};
+ghost use Rattle.std.specs.Option.{option_map, option_and_then};
 ghost use Rattle.parts.specs.Codes.{is_row};
 ghost use Rattle.parts.specs.Rows.{row_marks};
-ghost use Rattle.parts.specs.Lists.{at_place, then_at};
+ghost use Rattle.parts.specs.Lists.{at_place};
 ghost use Rattle.shelf.specs.Meaning.{sound_place};
 ghost use Rattle.shelf.specs.Table.{parts_of};
 
@@ -42,7 +42,7 @@ pub trait Entry: Copy {
     // The k-th mark of a block's row, by rising part; nothing where there is none.
     fn mark(block: &[Self], k: usize) -> Option<Mark>
         requires kept { formed (parts_of block.now) block.now ≡ true }
-        ensures { result ≡ then_at (row_in (parts_of block.now) block.now) (λ row. at_place (row_marks row) k) };
+        ensures { result ≡ option_and_then (λ row. at_place (row_marks row) k) (row_in (parts_of block.now) block.now) };
 
     // Lays a row into a block, whatever stood there; what stands after the row's entries stays.
     fn lay(block: &mut [Self], row: &[u8])

@@ -11,7 +11,7 @@ pub mod table;
 #[cfg(test)]
 mod tests;
 
-use parts::refusals::Refusal;
+use parts::Refusal;
 use parts::{Mark, Side};
 
 // A shelf of lessons (a store of learned clauses). Places, parts and a row's marks count from 1.

@@ -1,6 +1,6 @@
 // The same calls on each make.
 ghost use Rattle.std.specs.Prelude.{◌≡◌, true, false, drop, vec_len, MatchResult};
-ghost use Rattle.parts.specs.declared.refusals.Refusal.TheVariants.{NotAShelf};
+ghost use Rattle.parts.specs.declared.refusal.Refusal.TheVariants.{NotAShelf};
 ghost use Rattle.shelf.specs.Meaning.{can_write, written, can_clear, cleared, reply};
 ghost use Rattle.shelf.specs.Table.{used, can_make, empty, table_sound};
 ghost use Rattle.shelf.specs.Grid.{read_codes, formed_codes};
@@ -9,7 +9,7 @@ ghost use Rattle.shelf.specs.Views.{grid_meaning, grid_rest, list_meaning, list_
 use crate::Shelf;
 use crate::grid::GridShelf;
 use crate::list::ListShelf;
-use parts::refusals::{Refusal, Refused};
+use parts::{Refusal, Refused};
 use parts::{Mark, Side};
 use std::process::Abort;
 use std::test::Fail;

@@ -1,6 +1,6 @@
 // Making a shelf over a table, and what it answers and becomes.
 ghost use Rattle.std.specs.Prelude.{◌≡◌, ◌+◌, ◌-◌, ◌*◌, ◌≤◌, ◌++◌, true, false, length, drop, replicate, vec_len, MatchResult};
-ghost use Rattle.parts.specs.declared.refusals.Refusal.TheVariants.{NotAShelf, ShelfOutOfRange};
+ghost use Rattle.parts.specs.declared.refusal.Refusal.TheVariants.{NotAShelf, ShelfOutOfRange};
 ghost use Rattle.shelf.specs.Meaning.{within, can_write, written, can_clear, cleared, reply};
 ghost use Rattle.shelf.specs.Table.{IsBlock, used, can_make, empty, table_sound};
 ghost use Rattle.shelf.specs.Views.{table_meaning, table_rest, table_written, table_cleared};
@@ -8,16 +8,17 @@ ghost use Rattle.shelf.specs.Views.{table_meaning, table_rest, table_written, ta
 use crate::Shelf;
 use crate::entry::Entry;
 use crate::table::TableShelf;
-use parts::limits::{MOST_PARTS, MOST_PLACES};
-use parts::refusals::{Refusal, Refused};
-use parts::{Mark, is_row};
+use parts::limits::{MOST_PARTS, MOST_TABLE_PLACES};
+use parts::{Refusal, Refused};
+use parts::Mark;
+use parts::row::is_row;
 
 // Whether a shelf may be made over so many entries.
 fn can_make(n: usize, places: usize, entries: usize) -> bool
     ensures { result ≡ can_make n places entries }
 {
     (1..=MOST_PARTS).contains(&n)
-        && (n..=MOST_PLACES).contains(&places)
+        && (n..=MOST_TABLE_PLACES).contains(&places)
         && places * (n + 1) <= entries
 }
 

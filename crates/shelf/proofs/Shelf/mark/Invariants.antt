@@ -1,5 +1,6 @@
 use Rattle.std.proofs.Common.{◌≡◌}
-use Rattle.parts.specs.Lists.{at_place, then_at}
+use Rattle.std.specs.Option.{option_and_then}
+use Rattle.parts.specs.Lists.{at_place}
 use Rattle.shelf.specs.Meaning.{row_of, mark_of_place}
 use Rattle.shelf.proofs.Walks.{left_from}
 use Rattle.shelf.proofs.Shelf.mark.Given as goal
@@ -7,4 +8,4 @@ use Rattle.shelf.proofs.Shelf.mark.Given as goal
 -- so many marks are left to pass from the part on
 abbrev pub invariant-loop-part : goal.invariant-loop-part
 invariant-loop-part g l =
-    then_at (row_of (g.Self.Shelf.meaning l.self) l.place) (λ row. at_place (left_from l.part row) l.left) ≡ mark_of_place (g.Self.Shelf.meaning l.self) l.place l.k
+    option_and_then (λ row. at_place (left_from l.part row) l.left) (row_of (g.Self.Shelf.meaning l.self) l.place) ≡ mark_of_place (g.Self.Shelf.meaning l.self) l.place l.k

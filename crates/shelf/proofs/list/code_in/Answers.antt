@@ -1,7 +1,7 @@
 use Rattle.std.proofs.Common.{eqb, rules, tests, arith}
 use Rattle.std.proofs.lemmas.Iterator.{YieldsList-from_slice, YieldsList-from_map}
 use Rattle.std.proofs.lemmas.Iterator.Search.{find_from_yields_List}
-use Rattle.parts.specs.declared.Mark.{Mark}
+use Rattle.parts.specs.declared.mark.Mark.{Mark}
 use Rattle.shelf.specs.Listed.{mark_from}
 use Rattle.shelf.proofs.list.code_in.Goals as goal
 
