@@ -1,9 +1,6 @@
 //! The search by definition: its types, and the law that holds after every list of calls. The definitions are in specs/.
 #![tactic(auto)]
 
-ghost use Rattle.std.specs.Prelude.{◌≡◌};
-ghost use Rattle.search.specs.Law.{SearchKeepsItsPromises, CallsLeaveTheRest, FreshStarts};
-
 mod entry;
 mod forgetting;
 mod reason;
@@ -13,15 +10,3 @@ pub use entry::{Entry, Kind};
 pub use forgetting::Forgetting;
 pub use reason::Reason;
 pub use report::{Answer, Report};
-
-/// The law of the search: `SearchKeepsItsPromises` in specs/Law.antt, from every fresh state; which states are fresh; and what a call leaves alone.
-/// Returns how many promises a state keeps: lessons, verdict, turns, steps, and that a verdict comes.
-#[tactic(auto, using(crate::proofs::Promises::search_keeps_its_promises, crate::proofs::Promises::fresh_starts, crate::proofs::Promises::calls_leave_the_rest))]
-pub fn search_stands() -> usize
-    ensures count { result ≡ 5 }
-    ensures law { SearchKeepsItsPromises }
-    ensures fresh { FreshStarts }
-    ensures rest { CallsLeaveTheRest }
-{
-    5
-}

@@ -1,26 +1,21 @@
 -- One entry more, or less, on the trail.
-use Rattle.std.proofs.Common.{◌≡◌, ℕ, ◌+◌, ◌-◌, ◌<◌, ◌≤◌, true, false, List, [], ◌∷◌, length, get_or, take, set, is_some, None, refl, arith}
-use Rattle.std.proofs.lemmas.List.{ext_get_or}
+use Rattle.std.proofs.Common.{◌≡◌, ℕ, ◌+◌, ◌-◌, ◌<◌, ◌≤◌, true, false, List, [], ◌∷◌, ◌++◌, reverse, length, get_or, take, set, is_some, Some, None, refl, arith}
+use Rattle.std.proofs.lemmas.List.{ext_get_or, length-reverse, reverse-append}
 use Rattle.std.proofs.lemmas.Grind.{common_steps}
-use Rattle.std.proofs.lemmas.Option.{gets}
+use Rattle.std.proofs.lemmas.Bool.Decides.{nat_tests}
 use Rattle.parts.specs.Codes.{code_of}
-use Rattle.parts.specs.declared.Side.TheVariants.{In}
-use Rattle.book.specs.Meaning.{Rule, names, sound_rule}
-use Rattle.search.specs.declared.Entry.{Entry}
-use Rattle.search.specs.Trail.{settled, code, row}
-use Rattle.search.proofs.Settled.{length_row, place_row}
-use Rattle.search.proofs.Tally.{tally, tally_none, tally_le, tally_more}
-use Rattle.trail.specs.Stack.{marks_of, apart}
-use Rattle.trail.specs.Stacks.{trail_of}
-use Rattle.trail.specs.declared.Trail.{Trail}
-
--- at most n marks name parts from 1 to n, none twice
-named_count : (n : ℕ) (r : Rule) → sound_rule n r ≡ true → tally (names r) 1 n ≡ length r
-named_count n [] s = tally_none (names []) 1 n (λ p. refl)
-named_count n (m ∷ r) s = grind (arith, tally_more (names r) (names (m ∷ r)) m.part 1 n (λ p ne. grind arith), named_count n r)
-
-pub sound_length : (n : ℕ) (r : Rule) → sound_rule n r ≡ true → length r ≤ n
-sound_length n r s = omega (arith, named_count n r s, tally_le (names r) 1 n)
+use Rattle.parts.specs.declared.limits.TheConstants.{MOST_PARTS}
+use Rattle.parts.specs.declared.side.Side.TheVariants.{In}
+use Rattle.parts.specs.Distinct.{names, is_distinct}
+use Rattle.parts.specs.Rows.{Row}
+use Rattle.parts.proofs.DistinctLaws.{room as room_for, is_distinct_more}
+use Rattle.search.specs.declared.entry.Entry.{Entry}
+use Rattle.search.specs.Trail.{settled, code, row as row_of}
+use Rattle.search.proofs.Settled as rows
+use Rattle.search.proofs.Settled.{length_row, row_at}
+use Rattle.trail.specs.Settling.{IsTrail, can_settle, marks_of}
+use Rattle.parts.specs.declared.mark.Mark.{Mark}
+use Rattle.search.specs.declared.entry.Kind.{Kind}
 
 -- a part is settled where it is named
 pub settled_names : (t : List Entry) (p : ℕ) → names (marks_of t) p ≡ is_some (settled t p)
@@ -28,40 +23,48 @@ unfolding settled
 settled_names [] p = refl
 settled_names (x ∷ t) p = grind (arith, settled_names t p)
 
-pub unnamed : (t : List Entry) (p : ℕ) → names (marks_of t) p ≡ false → settled t p ≡ None
-unnamed t p e = grind (arith, settled_names t p)
-
 -- there is room on a trail where some part is open
-pub room : (t : List Entry) (p : ℕ) → settled t p ≡ None → 1 ≤ p → p ≤ 120 → apart t ≡ true → length t < 120
-room t p e lo hi s = grind (arith, common_steps, settled_names t p, sound_length 120 (record { part = p; side = In } ∷ marks_of t))
+room_on : (n : ℕ) (t : List Entry) (row : Row) (p : ℕ) → IsTrail n t row → settled t p ≡ None → 1 ≤ p → p ≤ n → length t < MOST_PARTS
+room_on n t row p w e lo hi = grind (arith, common_steps, settled_names t p, room_for n (marks_of t) (record { part = p; side = In }), w.few, w.apart)
 
--- a part outside 1 to 120 is not settled
-pub open_outside : (t : List Entry) (p : ℕ) → apart t ≡ true → (1 ≤ p → p ≤ 120 → ⊥) → settled t p ≡ None
+-- a part outside 1 to n is not settled
+pub open_outside : (n : ℕ) (t : List Entry) (p : ℕ) → is_distinct n (marks_of t) ≡ true → (1 ≤ p → p ≤ n → ⊥) → settled t p ≡ None
 unfolding settled
-open_outside [] p s out = refl
-open_outside (x ∷ t) p s out = grind (arith, open_outside t p)
+open_outside n [] p s out = refl
+open_outside n (x ∷ t) p s out = grind (arith, nat_tests, open_outside n t p)
 
--- the row of n parts, one by one
-pub row_at : (n : ℕ) (t : List Entry) (p d : ℕ) → p < n → get_or (row n t) p d ≡ code (settled t (1 + p))
-row_at n t p d h = grind (arith, gets, place_row n t (1 + p))
-
--- one part more or less in the row
-module _ (e : Entry) (t : List Entry) (lo : 1 ≤ e.mark.part) (hi : e.mark.part ≤ 120) where
-  pub row_push : row 120 (e ∷ t) ≡ set (row 120 t) (e.mark.part - 1) (code_of e.mark.side)
+-- the row with one part more, and without it again
+module _ (n : ℕ) (e : Entry) (t : List Entry) (lo : 1 ≤ e.mark.part) (hi : e.mark.part ≤ n) where
+  row_push : set (row_of n t) (e.mark.part - 1) (code_of e.mark.side) ≡ row_of n (e ∷ t)
   unfolding settled
   row_push = ext_get_or 0 _ _ (grind (arith, common_steps, length_row)) (λ p h. grind (arith, common_steps, length_row, row_at))
 
-  pub row_pop : names (marks_of t) e.mark.part ≡ false → set (row 120 (e ∷ t)) (e.mark.part - 1) 0 ≡ row 120 t
-  row_pop new = ext_get_or 0 _ _ (grind (arith, common_steps, length_row)) (λ p h. grind (arith, common_steps, length_row, row_at, row_push, unnamed))
+  row_pop : settled t e.mark.part ≡ None → set (row_of n (e ∷ t)) (e.mark.part - 1) 0 ≡ row_of n t
+  row_pop o = rw (← row_push) (ext_get_or 0 _ _ (grind (arith, common_steps, length_row)) (λ p h. grind (arith, common_steps, length_row, row_at)))
 
--- what an entry that stands on the trail tells
-pub top_apart : (e : Entry) (t : List Entry) → apart (e ∷ t) ≡ true → (1 ≤ e.mark.part) × (e.mark.part ≤ 120) × (names (marks_of t) e.mark.part ≡ false) × (apart t ≡ true)
-top_apart e t s = grind arith
+-- one entry more, on an open part
+pub pushed : (n : ℕ) (t : List Entry) (row : Row) (e : Entry) → IsTrail n t row → settled t e.mark.part ≡ None → 1 ≤ e.mark.part → e.mark.part ≤ n
+    → IsTrail n (e ∷ t) (set row (e.mark.part - 1) (code_of e.mark.side))
+pushed n t row e w o lo hi =
+    record { few = w.few; apart = grind (arith, nat_tests, w.apart, settled_names t e.mark.part); shows = rw w.shows (row_push MOST_PARTS e t lo (omega (arith, w.few))) }
 
--- the row of fewer parts is the front of the row
-pub row_front : (n : ℕ) (t : List Entry) → n ≤ 120 → take n (row 120 t) ≡ row n t
-row_front n t h = ext_get_or 0 _ _ (grind (arith, common_steps, length_row)) (λ p l. grind (arith, common_steps, length_row, row_at))
+-- the newest entry taken off
+pub popped : (n : ℕ) (t : List Entry) (row : Row) (e : Entry) → IsTrail n (e ∷ t) row
+    → (1 ≤ e.mark.part) × (e.mark.part ≤ n) × IsTrail n t (set row (e.mark.part - 1) 0)
+popped n t row e w =
+    let lo : 1 ≤ e.mark.part = grind (arith, nat_tests, w.apart) in
+    let hi : e.mark.part ≤ n = grind (arith, nat_tests, w.apart) in
+    let o : settled t e.mark.part ≡ None = grind (arith, w.apart, settled_names t e.mark.part) in
+    (lo, hi, record { few = w.few; apart = grind (arith, w.apart); shows = rw w.shows (row_pop MOST_PARTS e t lo (omega (arith, w.few)) o) })
 
--- what always holds of a trail
-pub trail_apart : (s : Trail) → apart (trail_of s) ≡ true
-trail_apart s = s.apart
+-- the front of the row is the row of n parts
+pub row_front : (n : ℕ) (t : List Entry) (row : Row) → IsTrail n t row → take n row ≡ row_of n t
+row_front n t row w = rw w.shows (rows.row_front n MOST_PARTS t w.few)
+
+-- where a mark may be settled there is room, and the trail with it is one
+module _ (n : ℕ) (es : List Entry) (row : Row) (m : Mark) (w : IsTrail n (reverse es) row) (can : can_settle (record { n = n; entries = reverse es }) m ≡ true) where
+  pub room : length es < MOST_PARTS
+  room = omega (arith, length-reverse es, room_on n (reverse es) row m.part w (grind arith) (grind (arith, nat_tests)) (grind (arith, nat_tests)))
+
+  pub grown : (k : Kind) → IsTrail n (reverse (es ++ record { mark = m; kind = k } ∷ [])) (set row (m.part - 1) (code_of m.side))
+  grown k = rw reverse-append (pushed n (reverse es) row (record { mark = m; kind = k }) w (grind arith) (grind (arith, nat_tests)) (grind (arith, nat_tests)))

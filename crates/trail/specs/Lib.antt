@@ -1,2 +1,1 @@
-pub mod Stack
-pub mod Stacks
+pub mod Settling
