@@ -1,5 +1,8 @@
-// The lessons on a shelf: where the next one is written, and which are forgotten.
+//! The lessons on a shelf: where the next one is written, and which are forgotten.
 #![tactic(auto)]
 
-pub mod forget;
-pub mod place;
+mod forget;
+mod place;
+
+pub use forget::{is_forgotten, sweep};
+pub use place::next_place;
