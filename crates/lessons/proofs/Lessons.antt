@@ -15,7 +15,7 @@ use Rattle.std.proofs.lemmas.Bool.Decides.{nat_tests}
 use Rattle.parts.specs.Lists.{at_place}
 use Rattle.parts.specs.Rows.{Row, row_marks}
 use Rattle.parts.specs.declared.mark.Mark.{Mark}
-use Rattle.shelf.specs.Meaning.{Shelved, row_of, cleared as place_cleared}
+use Rattle.shelf.specs.Meaning.{Shelved, row_at, place_emptied}
 use Rattle.search.specs.declared.forgetting.Forgetting.{Forgetting}
 use Rattle.search.specs.declared.forgetting.Forgetting.TheVariants.{KeepAll}
 use Rattle.search.specs.Trail.{Trail, truth, says_open}
@@ -64,7 +64,7 @@ pub record SweptTo (f : Forgetting) (now : Row) (t : Trail) (old : Shelved) (i :
 
 -- one place on, and past the last
 module _ (f : Forgetting) (now : Row) (t : Trail) (old : Shelved) (i : ℕ) (s : Shelved) (d : SweptTo f now t old i s) where
-  pub one_swept : (s' : Shelved) → i < length old.rows → s' ≡ cond (drops f now t (i + 1) (row_of s (i + 1))) (place_cleared s (i + 1)) s → SweptTo f now t old (i + 1) s'
+  pub one_swept : (s' : Shelved) → i < length old.rows → s' ≡ cond (drops f now t (i + 1) (row_at s (i + 1))) (place_emptied s (i + 1)) s → SweptTo f now t old (i + 1) s'
   unfolding sweep
   one_swept s' h e = let more = at_drop_more (sweep f now t (i + 1)) s.rows i None in grind (arith, common_steps, gets, nat_tests, d, more)
 

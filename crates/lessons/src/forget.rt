@@ -2,7 +2,7 @@
 ghost use Rattle.std.specs.Prelude.{◌≡◌, [], Some};
 ghost use Rattle.std.specs.Option.{unwrap_or};
 ghost use Rattle.parts.specs.Rows.{row_marks};
-ghost use Rattle.shelf.specs.Meaning.{row_of, marks_of_place};
+ghost use Rattle.shelf.specs.Meaning.{row_at, marks_of_place};
 ghost use Rattle.search.specs.Trail.{row as settled_row};
 ghost use Rattle.search.specs.Machine.{is_forgotten, open_count, drops, swept};
 
@@ -27,7 +27,7 @@ pub fn is_forgotten(forget: Forgetting, marks: usize, unsettled: usize) -> bool
 fn open_marks<S: Shelf>(shelf: &S, place: usize, marks: usize, trail: &Trail) -> usize
     requires { Some marks ≡ marks_of_place (S.Shelf.meaning shelf.now) place }
     ensures { result ≡ open_count (settled_row trail.now.n trail.now.entries)
-        (row_marks (unwrap_or (row_of (S.Shelf.meaning shelf.now) place) [])) }
+        (row_marks (unwrap_or (row_at (S.Shelf.meaning shelf.now) place) [])) }
 {
     (1..=marks)
         .filter_map(|k| shelf.mark(place, k))
@@ -39,7 +39,7 @@ fn open_marks<S: Shelf>(shelf: &S, place: usize, marks: usize, trail: &Trail) ->
 #[tactic(auto, unfolding(search::specs::Machine::drops))]
 fn drops<S: Shelf>(shelf: &S, forget: Forgetting, trail: &Trail, place: usize) -> bool
     ensures { result ≡ drops forget (settled_row trail.now.n trail.now.entries) trail.now.entries place
-        (row_of (S.Shelf.meaning shelf.now) place) }
+        (row_at (S.Shelf.meaning shelf.now) place) }
 {
     let Some(marks) = shelf.marks(place) else {
         return false;

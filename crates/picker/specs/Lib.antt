@@ -1,4 +1,5 @@
 pub mod Meaning
 pub mod Lowest
 pub mod Ranking
-pub mod RankedSound
+pub mod Proved
+pub mod Makes

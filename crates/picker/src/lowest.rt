@@ -1,26 +1,32 @@
-// The picker of the lowest open part, out.
-ghost use Rattle.std.specs.Prelude.{◌≡◌, ◌==◌, true, false, position, MatchResult};
+//! The picker of the lowest open part, out.
+ghost use Rattle.std.specs.Prelude.{◌≡◌, ◌==◌, IsTrue, IsFalse, position, MatchResult};
 ghost use Rattle.parts.specs.declared.refusal.Refusal.TheVariants.{NotAPicker};
-ghost use Rattle.picker.specs.Meaning.{a_size};
-ghost use Rattle.picker.specs.Lowest.{lowest_picks, lowest_sound};
+ghost use Rattle.picker.specs.Meaning.{is_size};
+ghost use Rattle.picker.specs.Lowest.{lowest_picks};
 
 use crate::Picker;
 use parts::limits::MOST_PARTS;
-use parts::Refusal;
-use parts::{Mark, Side};
 use parts::row::is_row;
+use parts::{Mark, Refusal, Side};
 
-// Picks the lowest open part, out.
+/// Picks the lowest open part, out.
 #[derive(Clone, Copy)]
 pub struct Lowest {
     n: usize,
-    ghost sized: { a_size n ≡ true },
+    ghost sized: { IsTrue (is_size n) },
 }
 
 impl Lowest {
-    // A picker of 1 to 120 parts.
+    ghost use Rattle.picker.specs.Makes.{lowest_picker};
+
+    /// A picker of n parts. Refused with 14 where n is 0 or above 120.
     pub fn new(n: usize) -> Result<Lowest, Refusal>
-        ensures { MatchResult result (λ p. (a_size n ≡ true) × (p.n ≡ n)) (λ e. (a_size n ≡ false) × (e ≡ NotAPicker)) }
+        ensures made { MatchResult result
+            (λ _. IsTrue (is_size n))
+            (λ _. IsFalse (is_size n)) }
+        ensures value { MatchResult result
+            (λ p. lowest_picker p ≡ lowest_picks n)
+            (λ e. e ≡ NotAPicker) }
     {
         if n == 0 || n > MOST_PARTS {
             return Err(Refusal::NotAPicker);
@@ -29,8 +35,12 @@ impl Lowest {
     }
 }
 
+/// It answers each row of n codes that has an open part.
 impl Picker for Lowest {
-    ghost meaning = { λ p. lowest_picks p.n };
+    ghost use Rattle.picker.specs.Makes.{lowest_picker};
+    ghost use Rattle.picker.specs.Proved.{lowest_sound};
+
+    ghost meaning = { lowest_picker };
 
     ghost sound = { λ p. lowest_sound p.n p.sized };
 
@@ -38,7 +48,7 @@ impl Picker for Lowest {
         self.n
     }
 
-    #[tactic(auto, using(crate::specs::Lowest::some_place))]
+    #[tactic(auto, using(crate::specs::Proved::some_place))]
     fn pick(&self, row: &[u8]) -> Option<Mark> {
         if !is_row(row, self.n) {
             return None;

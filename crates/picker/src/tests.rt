@@ -1,13 +1,11 @@
-// Both pickers, asked through the one trait.
-use crate::Picker;
-use crate::lowest::Lowest;
-use crate::ranked::Ranked;
-use parts::Refusal;
-use parts::{Mark, Side};
+//! Both pickers, asked through the one trait.
+use crate::{Lowest, Picker, Ranked};
+use parts::{Mark, Refusal, Side};
 use std::process::Abort;
 use std::test::Fail;
 
-// Each answers the row 1 0 0 by what is expected, and rows that are settled, short or no row at all by nothing.
+// Each answers the row 1 0 0 by what is expected,
+// and rows that are settled, short or no row at all by nothing.
 fn answers<P: Picker>(rt: &impl Abort, picker: &P, expected: Mark) {
     assert_eq!(rt; picker.n(), 3);
     assert_eq!(rt; picker.pick(&[1, 0, 0]), Some(expected));

@@ -8,7 +8,7 @@ use Rattle.parts.specs.Rows.{Row, row_marks, names_mark, is_full}
 use Rattle.parts.specs.declared.mark.Mark.{Mark}
 use Rattle.book.specs.Meaning.{Rule, RuleBook}
 use Rattle.picker.specs.Meaning.{Picks, picked}
-use Rattle.shelf.specs.Meaning.{Shelved, written}
+use Rattle.shelf.specs.Meaning.{Shelved, row_written}
 use Rattle.search.specs.declared.entry.Entry.{Entry}
 use Rattle.search.specs.declared.entry.Kind.{Kind}
 use Rattle.search.specs.declared.entry.Kind.TheVariants.{Held, Picked, Forced}
@@ -147,14 +147,14 @@ turn at c (e ∷ t) =
     ]
 
 -- whether a place is a reason on the trail
-abbrev pub is_place : ℕ → Kind → Bool
-is_place i Held = false
-is_place i Picked = false
-is_place i (Forced (Book j)) = false
-is_place i (Forced (Shelf j)) = i == j
+abbrev pub by_place : ℕ → Kind → Bool
+by_place i Held = false
+by_place i Picked = false
+by_place i (Forced (Book j)) = false
+by_place i (Forced (Shelf j)) = i == j
 
 unfoldable pub needed : Trail → ℕ → Bool
-needed t i = list_any (λ (e : Entry). is_place i e.kind) t
+needed t i = list_any (λ (e : Entry). by_place i e.kind) t
 
 abbrev pub is_empty : Option (Option Row) → Bool
 is_empty None = false
@@ -219,7 +219,7 @@ turned b m (stop x c t) =
     let u : Trail = record { mark = opposite_of x; kind = Forced (Shelf i) } ∷ t in
     record m {
       trail = u;
-      shelf = swept b.forget (row b.book.n u) u (written m.shelf i c);
+      shelf = swept b.forget (row b.book.n u) u (row_written m.shelf i c);
       last = i;
       steps = suc m.steps;
       turns = suc m.turns;

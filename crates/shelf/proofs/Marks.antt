@@ -8,12 +8,12 @@ use Rattle.parts.specs.declared.side.Side.{Side}
 use Rattle.parts.specs.declared.side.Side.TheVariants.{In, Out}
 use Rattle.parts.specs.Codes.{side_of, all_codes}
 use Rattle.parts.specs.Rows.{with_mark, marks_from}
-use Rattle.shelf.specs.Listed.{number_of, mark_from, rises, code_in, codes_by}
+use Rattle.shelf.specs.Listed.{entry_of, mark_of_entry, rises, code_in, codes_by}
 
--- marks come back from their numbers
-pub numbers_back : (ms : List Mark) → map mark_from (map number_of ms) ≡ ms
-numbers_back [] = refl
-numbers_back (m ∷ ms) = grind (arith, nat_tests, numbers_back ms)
+-- marks come back from their entries
+pub entries_back : (ms : List Mark) → map mark_of_entry (map entry_of ms) ≡ ms
+entries_back [] = refl
+entries_back (m ∷ ms) = grind (arith, nat_tests, entries_back ms)
 
 -- a part's code among the codes
 pub code_at_part : (part count i : ℕ) (ms : List Mark) → i < count → get_or (codes_by part count ms) i 0 ≡ code_in ms (part + i)

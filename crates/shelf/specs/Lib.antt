@@ -2,4 +2,5 @@ pub mod Meaning
 pub mod Table
 pub mod Grid
 pub mod Listed
-pub mod Views
+pub mod Proved
+pub mod Makes

@@ -1,20 +1,24 @@
-// Shelves: a fixed number of places, each empty or with a row of codes, whatever keeps them.
+//! Shelves: a fixed number of places, each empty or with a row of codes, whatever keeps them.
 #![tactic(auto)]
 
 ghost use Rattle.std.specs.Prelude.{◌≡◌, length};
-ghost use Rattle.shelf.specs.Meaning.{Shelved, Sound, code_of_place, marks_of_place, mark_of_place, can_write, written, can_clear, cleared, reply};
+ghost use Rattle.shelf.specs.Meaning.{Shelved, Sound, code_of_place, marks_of_place, mark_of_place};
+ghost use Rattle.shelf.specs.Meaning.{can_write, row_written, can_clear, place_emptied, done_or_25};
 
 mod entry;
-pub mod grid;
-pub mod list;
-pub mod table;
+mod grid;
+mod list;
+mod table;
 #[cfg(test)]
 mod tests;
 
-use parts::Refusal;
-use parts::{Mark, Side};
+pub use entry::Entry;
+pub use grid::GridShelf;
+pub use list::ListShelf;
+use parts::{Mark, Refusal, Side};
+pub use table::{TableShelf, entries};
 
-// A shelf of lessons (a store of learned clauses). Places, parts and a row's marks count from 1.
+/// A shelf of lessons (a store of learned clauses). Places, parts and a row's marks count from 1.
 pub trait Shelf {
     // what the shelf means
     ghost meaning: { Self → Shelved };
@@ -22,25 +26,27 @@ pub trait Shelf {
     // 1 to 120 parts, at least as many places, at most 4,096, and what stands in one is a row
     ghost sound: { (s : Self) → Sound (meaning s) };
 
-    // How many parts there are.
+    /// How many parts there are.
     fn n(&self) -> usize
         ensures { result ≡ (meaning self.now).n };
 
-    // How many places there are.
+    /// How many places there are.
     fn places(&self) -> usize
         ensures { result ≡ length (meaning self.now).rows };
 
-    // A place's code for a part; nothing where the place is empty.
+    /// A place's code for a part; nothing where the place is empty.
+    /// Refused with 25 where place or part is out of range.
     // Stays a code: it is a byte of a row that was written, and rows come from callers.
     fn code(&self, place: usize, part: usize) -> Result<Option<u8>, Refusal>
         ensures { result ≡ code_of_place (meaning self.now) place part };
 
-    // How many marks a place's row names; nothing where the place is empty or out of range.
-    #[tactic(auto, using(crate::proofs::Walks::told))]
+    /// How many marks a place's row names; nothing where the place is empty or out of range.
+    #[tactic(auto, using(crate::proofs::Walks::code_shown))]
     fn marks(&self, place: usize) -> Option<usize>
         ensures { result ≡ marks_of_place (meaning self.now) place }
     {
-        // Stays a loop, as does the one below: a chain over codes that may be missing would carry that beside the count.
+        // Stays a loop, as does the one below:
+        // a chain over codes that may be missing would carry that beside the count.
         let mut marks = 0;
         for part in 1..=self.n() {
             let code = self.code(place, part).ok()??;
@@ -51,8 +57,8 @@ pub trait Shelf {
         Some(marks)
     }
 
-    // The k-th mark of a place's row, by rising part; nothing where there is none.
-    #[tactic(auto, using(crate::proofs::Walks::told))]
+    /// The k-th mark of a place's row, by rising part; nothing where there is none.
+    #[tactic(auto, using(crate::proofs::Walks::code_shown))]
     fn mark(&self, place: usize, k: usize) -> Option<Mark>
         ensures { result ≡ mark_of_place (meaning self.now) place k }
     {
@@ -69,13 +75,15 @@ pub trait Shelf {
         None
     }
 
-    // Puts a row at a place.
+    /// Puts a row at a place, whatever stood there.
+    /// Refused with 25 where the place is out of range, or the codes are no row of n parts;
+    /// the shelf is then as it was.
     fn write(&mut self, place: usize, row: &[u8]) -> Result<(), Refusal>
-        ensures answer { result ≡ reply (can_write (meaning self.old) place row.now) }
-        ensures after { meaning self.new ≡ written (meaning self.old) place row.now };
+        ensures answer { result ≡ done_or_25 (can_write (meaning self.old) place row.now) }
+        ensures after { meaning self.new ≡ row_written (meaning self.old) place row.now };
 
-    // Empties a place.
+    /// Empties a place. Refused with 25 where it is out of range; the shelf is then as it was.
     fn clear(&mut self, place: usize) -> Result<(), Refusal>
-        ensures answer { result ≡ reply (can_clear (meaning self.old) place) }
-        ensures after { meaning self.new ≡ cleared (meaning self.old) place };
+        ensures answer { result ≡ done_or_25 (can_clear (meaning self.old) place) }
+        ensures after { meaning self.new ≡ place_emptied (meaning self.old) place };
 }

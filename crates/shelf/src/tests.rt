@@ -1,16 +1,13 @@
-// The same calls on each make.
-ghost use Rattle.std.specs.Prelude.{◌≡◌, true, false, drop, vec_len, MatchResult};
+//! The same calls on each kind of shelf.
+ghost use Rattle.std.specs.Prelude.{◌≡◌, IsTrue, IsFalse, drop, vec_len, MatchResult};
 ghost use Rattle.parts.specs.declared.refusal.Refusal.TheVariants.{NotAShelf};
-ghost use Rattle.shelf.specs.Meaning.{can_write, written, can_clear, cleared, reply};
-ghost use Rattle.shelf.specs.Table.{used, can_make, empty, table_sound};
+ghost use Rattle.shelf.specs.Meaning.{can_write, row_written, can_clear, place_emptied, done_or_25};
+ghost use Rattle.shelf.specs.Table.{entries_of, can_make, empty_shelf};
 ghost use Rattle.shelf.specs.Grid.{read_codes, formed_codes};
-ghost use Rattle.shelf.specs.Views.{grid_meaning, grid_rest, list_meaning, list_rest};
+ghost use Rattle.shelf.specs.Makes.{grid_meaning, grid_rest, list_meaning, list_rest};
 
-use crate::Shelf;
-use crate::grid::GridShelf;
-use crate::list::ListShelf;
-use parts::{Refusal, Refused};
-use parts::{Mark, Side};
+use crate::{GridShelf, ListShelf, Shelf, entries};
+use parts::{Mark, Refusal, Refused, Side};
 use std::process::Abort;
 use std::test::Fail;
 
@@ -22,24 +19,31 @@ const IN_3: Mark = Mark {
 };
 
 // What a new shelf, a write and a clearing promise, as it reads for a grid of codes.
-// Stays beside the same three for lists: one function over any entry would promise what the calls do, and here the promises of each make are shown to follow.
+// Stays beside the same three for lists: one function over any entry would promise
+// what the calls do, and here the promises of each kind are shown to follow.
 fn new_grid(n: usize, places: usize, table: Vec<u8>) -> Result<GridShelf, Refused<Vec<u8>>>
-    ensures { MatchResult result (λ s. (can_make n places (vec_len table) ≡ true) × (grid_meaning s ≡ empty n places) × (grid_rest s ≡ drop (used n places) table.items)) (λ e. (can_make n places (vec_len table) ≡ false) × (e ≡ record { refusal = NotAShelf; back = table })) }
+    ensures made { MatchResult result
+        (λ _. IsTrue (can_make n places (vec_len table)))
+        (λ _. IsFalse (can_make n places (vec_len table))) }
+    ensures value { MatchResult result
+        (λ s. (grid_meaning s ≡ empty_shelf n places)
+        × (grid_rest s ≡ drop (entries_of n places) table.items))
+        (λ e. e ≡ record { refusal = NotAShelf; back = table }) }
 {
     GridShelf::new(n, places, table)
 }
 
 fn write_grid(shelf: &mut GridShelf, place: usize, row: &[u8]) -> Result<(), Refusal>
-    ensures answer { result ≡ reply (can_write (grid_meaning shelf.old) place row.now) }
-    ensures after { grid_meaning shelf.new ≡ written (grid_meaning shelf.old) place row.now }
+    ensures answer { result ≡ done_or_25 (can_write (grid_meaning shelf.old) place row.now) }
+    ensures after { grid_meaning shelf.new ≡ row_written (grid_meaning shelf.old) place row.now }
     ensures rest { grid_rest shelf.new ≡ grid_rest shelf.old }
 {
     shelf.write(place, row)
 }
 
 fn clear_grid(shelf: &mut GridShelf, place: usize) -> Result<(), Refusal>
-    ensures answer { result ≡ reply (can_clear (grid_meaning shelf.old) place) }
-    ensures after { grid_meaning shelf.new ≡ cleared (grid_meaning shelf.old) place }
+    ensures answer { result ≡ done_or_25 (can_clear (grid_meaning shelf.old) place) }
+    ensures after { grid_meaning shelf.new ≡ place_emptied (grid_meaning shelf.old) place }
     ensures rest { grid_rest shelf.new ≡ grid_rest shelf.old }
 {
     shelf.clear(place)
@@ -47,37 +51,46 @@ fn clear_grid(shelf: &mut GridShelf, place: usize) -> Result<(), Refusal>
 
 // The same, as it reads for lists of marks. Stays, for the reason above.
 fn new_list(n: usize, places: usize, table: Vec<u16>) -> Result<ListShelf, Refused<Vec<u16>>>
-    ensures { MatchResult result (λ s. (can_make n places (vec_len table) ≡ true) × (list_meaning s ≡ empty n places) × (list_rest s ≡ drop (used n places) table.items)) (λ e. (can_make n places (vec_len table) ≡ false) × (e ≡ record { refusal = NotAShelf; back = table })) }
+    ensures made { MatchResult result
+        (λ _. IsTrue (can_make n places (vec_len table)))
+        (λ _. IsFalse (can_make n places (vec_len table))) }
+    ensures value { MatchResult result
+        (λ s. (list_meaning s ≡ empty_shelf n places)
+        × (list_rest s ≡ drop (entries_of n places) table.items))
+        (λ e. e ≡ record { refusal = NotAShelf; back = table }) }
 {
     ListShelf::new(n, places, table)
 }
 
 fn write_list(shelf: &mut ListShelf, place: usize, row: &[u8]) -> Result<(), Refusal>
-    ensures answer { result ≡ reply (can_write (list_meaning shelf.old) place row.now) }
-    ensures after { list_meaning shelf.new ≡ written (list_meaning shelf.old) place row.now }
+    ensures answer { result ≡ done_or_25 (can_write (list_meaning shelf.old) place row.now) }
+    ensures after { list_meaning shelf.new ≡ row_written (list_meaning shelf.old) place row.now }
     ensures rest { list_rest shelf.new ≡ list_rest shelf.old }
 {
     shelf.write(place, row)
 }
 
 fn clear_list(shelf: &mut ListShelf, place: usize) -> Result<(), Refusal>
-    ensures answer { result ≡ reply (can_clear (list_meaning shelf.old) place) }
-    ensures after { list_meaning shelf.new ≡ cleared (list_meaning shelf.old) place }
+    ensures answer { result ≡ done_or_25 (can_clear (list_meaning shelf.old) place) }
+    ensures after { list_meaning shelf.new ≡ place_emptied (list_meaning shelf.old) place }
     ensures rest { list_rest shelf.new ≡ list_rest shelf.old }
 {
     shelf.clear(place)
 }
 
-// A grid whose marks are told by the walks that every shelf has.
+// A grid whose marks come from the walks that every shelf has.
 #[derive(Drop)]
 struct Walked {
     grid: GridShelf,
 }
 
 impl Shelf for Walked {
+    ghost use Rattle.shelf.specs.Proved.{table_sound};
+
     ghost meaning = { λ s. grid_meaning s.grid };
 
-    ghost sound = { λ s. table_sound read_codes s.grid.n (formed_codes s.grid.n) (λ block h. h) s.grid.places (vec_len s.grid.table) s.grid.table.items s.grid.sized s.grid.kept };
+    ghost sound = { λ s. table_sound read_codes s.grid.n (formed_codes s.grid.n) (λ block h. h)
+        s.grid.places (vec_len s.grid.table) s.grid.table.items s.grid.sized s.grid.kept };
 
     fn n(&self) -> usize {
         self.grid.n()
@@ -178,4 +191,10 @@ fn too_few_places(rt: HostRuntime) -> Result<(), Fail> {
     assert_eq!(rt; refused.refusal, Refusal::NotAShelf);
     assert_eq!(rt; refused.back.first().copied(), Some(7));
     Ok(())
+}
+
+#[test]
+fn table_sizes(rt: HostRuntime) {
+    assert_eq!(rt; entries(3, 4), 16);
+    assert_eq!(rt; entries(usize::MAX, 2), usize::MAX);
 }

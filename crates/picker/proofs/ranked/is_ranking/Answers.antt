@@ -4,7 +4,7 @@ use Rattle.std.proofs.lemmas.Iterator.{YieldsList-from_range}
 use Rattle.std.proofs.lemmas.Iterator.Search.{all_from_yields_List}
 use Rattle.std.proofs.lemmas.Bool.Decides.{nat_tests}
 use Rattle.picker.specs.Ranking.{times}
-use Rattle.picker.proofs.ranked.is_ranked.Goals as goal
+use Rattle.picker.proofs.ranked.is_ranking.Goals as goal
 
 pub returns-then-n-le-MOST_PARTS : goal.returns-then-n-le-MOST_PARTS
 returns-then-n-le-MOST_PARTS c =
