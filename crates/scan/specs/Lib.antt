@@ -1,2 +1,2 @@
-pub mod Scan
-pub mod Lists
+pub mod Scanning
+pub mod Under

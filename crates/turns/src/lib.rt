@@ -1,57 +1,33 @@
-// The working rule of a turn, kept as the row of the marks that it names.
+//! The turn: the working rule, kept as the row of the marks that it names, is resolved down the trail.
 #![tactic(auto)]
 
-ghost use Rattle.std.specs.Prelude.{◌≡◌, ◌-◌, [], length, is_some, None, slice_set};
-ghost use Rattle.search.specs.Machine.{marks_at, resolve as resolved, turn as turned_at};
-ghost use Rattle.search.specs.Trail.{names_mark, enter as enter_marks};
-ghost use Rattle.scan.specs.Scan.{rule_in};
-ghost use Rattle.trail.specs.Stacks.{trail_of};
-ghost use Rattle.turns.specs.Turning.{outcome, rule_by};
+ghost use Rattle.std.specs.Prelude.{◌≡◌, [], length, is_some, None};
+ghost use Rattle.rules.specs.Listing.{rule_in};
+ghost use Rattle.search.specs.Machine.{marks_at, named_holds, resolve as resolved, turn as turned_at};
+ghost use Rattle.search.specs.Trail.{enter as entered};
+ghost use Rattle.turns.specs.Turning.{outcome, rule_by, with_hold};
 
 use book::Book;
 use parts::Mark;
-use scan::RuleList;
-use scan::lists::{BookRules, ShelfRules};
+use parts::row::{names, write};
+use rules::{BookRules, RuleList, ShelfRules};
 use search::{Kind, Reason};
 use shelf::Shelf;
 use trail::Trail;
 
-// What reasons speak of: the rules of a book, and the lessons of a shelf.
+/// What reasons speak of: the rules of a book, and the lessons of a shelf.
 #[derive(Clone, Copy)]
-pub struct Rules<'a, B, S> {
+pub struct Reasons<'a, B, S> {
     pub book: &'a B,
     pub shelf: &'a S,
 }
 
-// Whether a row names a mark.
-#[tactic(auto, unfolding(search::specs::Trail::names_mark))]
-pub fn names(row: &[u8], mark: Mark) -> bool
-    ensures { result ≡ names_mark row.now mark }
-{
-    let Some(i) = mark.part.checked_sub(1) else {
-        return false;
-    };
-    row.get(i).is_some_and(|code| *code == u8::from(mark.side))
-}
-
-// Writes the code of a part into a row, if the row has that part; part 0, which no mark has, counts as part 1.
-// Stays a code, 0 where the part is taken out: it is the byte that is written, and an Option of a side would be turned into it here and made from it at each call.
-pub fn write(row: &mut [u8], part: usize, code: u8)
-    ensures { row.new ≡ slice_set row.old (part - 1) code }
-{
-    // Stays a test and an index: nothing is known of a row once a place that `get_mut` lent is written.
-    let i = part.saturating_sub(1);
-    if i < row.len() {
-        row[i] = code;
-    }
-}
-
-// Writes the marks of a rule into a row, and tells whether there is such a rule.
-// Stays a bool, as does that for a reason below: the marks are in the row, and there is no value to tell beside it.
+/// Writes the marks of a rule into a row, and returns whether there is such a rule.
+// Stays a bool, as does that for a reason below: the marks are in the row, and there is no value to return beside it.
 #[tactic(auto, using(std::proofs::lemmas::Grind::common_steps, std::proofs::lemmas::Option::gets), unfolding(search::specs::Trail::enter))]
 pub fn enter<R: RuleList>(list: &R, rule: usize, row: &mut [u8]) -> bool
     ensures there { result ≡ is_some (rule_in (R.RuleList.listed list.now).rules rule) }
-    ensures after { row.new ≡ enter_marks row.old (marks_at (rule_in (R.RuleList.listed list.now).rules rule)) }
+    ensures after { row.new ≡ entered row.old (marks_at (rule_in (R.RuleList.listed list.now).rules rule)) }
 {
     let Some(marks) = list.marks(rule) else {
         return false;
@@ -66,12 +42,12 @@ pub fn enter<R: RuleList>(list: &R, rule: usize, row: &mut [u8]) -> bool
     true
 }
 
-impl<B: Book, S: Shelf> Rules<'_, B, S> {
-    // Writes the marks of the rule that a reason speaks of into a row, and tells whether there is such a rule: one of the book, or a lesson of the shelf.
+impl<B: Book, S: Shelf> Reasons<'_, B, S> {
+    /// Writes the marks of the rule that a reason speaks of into a row, and returns whether there is such a rule.
     #[tactic(auto, using(std::proofs::lemmas::Grind::common_steps, std::proofs::lemmas::Option::gets), unfolding(search::specs::Machine::rule_at))]
-    pub fn enter_reason(&self, reason: Reason, row: &mut [u8]) -> bool
+    pub fn enter(&self, reason: Reason, row: &mut [u8]) -> bool
         ensures there { result ≡ is_some (rule_by B.Book.meaning S.Shelf.meaning self.now reason) }
-        ensures after { row.new ≡ enter_marks row.old (marks_at (rule_by B.Book.meaning S.Shelf.meaning self.now reason)) }
+        ensures after { row.new ≡ entered row.old (marks_at (rule_by B.Book.meaning S.Shelf.meaning self.now reason)) }
     {
         match reason {
             Reason::Book(rule) => enter(&BookRules(self.book), rule, row),
@@ -79,21 +55,26 @@ impl<B: Book, S: Shelf> Rules<'_, B, S> {
         }
     }
 
-    // Resolves a part: the marks of the row and of the reason, each once, without the two marks of that part.
+    /// Resolves a part: the marks of the row and of the reason, each once, without the two marks of that part.
     #[tactic(auto, unfolding(search::specs::Machine::resolve, search::specs::Trail::enter, search::specs::Trail::leave))]
     pub fn resolve(&self, reason: Reason, part: usize, row: &mut [u8])
         ensures { row.new ≡ resolved part row.old (rule_by B.Book.meaning S.Shelf.meaning self.now reason) }
     {
-        if self.enter_reason(reason, row) {
+        if self.enter(reason, row) {
             write(row, part, 0);
         }
     }
 
-    // Takes entries off the trail from the newest, resolving the working row, down to the picked mark whose opposite the row names; nothing where the trail's bottom comes first.
+    /// Takes entries off the trail from the newest, resolving the working row, down to the picked mark whose opposite the row names,
+    /// which it returns; nothing where the trail's bottom comes first.
     #[tactic(auto, unfolding(search::specs::Machine::turn))]
     pub fn turn(&self, trail: &mut Trail, row: &mut [u8]) -> Option<Mark>
-        ensures turned { outcome result row.new (trail_of trail.new) ≡ turned_at (rule_by B.Book.meaning S.Shelf.meaning self.now) row.old (trail_of trail.old) }
-        ensures bottom { result ≡ None → trail_of trail.new ≡ [] }
+        ensures turned {
+            outcome result row.new trail.new.entries
+            ≡ turned_at (rule_by B.Book.meaning S.Shelf.meaning self.now) row.old trail.old.entries
+        }
+        ensures bottom { result ≡ None → trail.new.entries ≡ [] }
+        ensures parts { trail.new.n ≡ trail.old.n }
         ensures long { length row.new ≡ length row.old }
     {
         while let Some(entry) = trail.pop() {
@@ -107,5 +88,25 @@ impl<B: Book, S: Shelf> Rules<'_, B, S> {
             }
         }
         None
+    }
+}
+
+/// Fills a row with the holds whose opposites a working row names, 0 elsewhere.
+#[tactic(auto, using(std::proofs::lemmas::Grind::common_steps, crate::proofs::Naming::named_none, crate::proofs::Naming::named_more, crate::proofs::Naming::named_all))]
+pub fn name_holds(holds: &[Mark], work: &[u8], named: &mut [u8])
+    ensures { named.new ≡ named_holds (length named.old) work.now holds.now }
+{
+    named.fill(0);
+    for hold in holds {
+        name_hold(*hold, work, named);
+    }
+}
+
+// Names one hold, if a working row names its opposite.
+fn name_hold(hold: Mark, work: &[u8], named: &mut [u8])
+    ensures { named.new ≡ with_hold work.now hold named.old }
+{
+    if names(work, hold.opposite()) {
+        write(named, hold.part, u8::from(hold.side));
     }
 }
