@@ -1,1 +1,10 @@
+pub mod Basics
+pub mod Rows
+pub mod Invariant
 pub mod Settled
+pub mod Turn
+pub mod States
+pub mod Places
+pub mod Look
+pub mod Step
+pub mod Promises

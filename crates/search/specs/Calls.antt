@@ -1,4 +1,4 @@
--- Open, hold, release, run and the questions: their refusals, their replies, and the state after them.
+-- Open, hold, release, run and the questions: their refusals and replies, and the state after them.
 use Rattle.std.specs.Prelude.{ℕ, ◌+◌, Bool, true, false, if◌then◌else◌, not, ◌&&◌, ◌||◌, List, [], ◌∷◌, ◌++◌, length, replicate, is_some, Some, None, Ok, Err, Option, Result, ◌==◌, nat_le, nat_lt}
 use Rattle.parts.specs.Codes.{side_of}
 use Rattle.parts.specs.declared.limits.TheConstants.{MOST_PARTS, MOST_BUDGET, MOST_STEPS}
@@ -44,7 +44,8 @@ emptied s = record s { rows = replicate (length s.rows) None }
 unfoldable pub restarted : Machine → List Mark → Machine
 restarted m hs = record m { holds = hs; trail = []; steps = 0; turns = 0; verdict = working }
 
--- a session that was opened with a picker and a shelf: every place is emptied, with no holds, an empty trail and no counts
+-- a session that was opened with a picker and a shelf: every place is emptied, with no holds, an
+-- empty trail and no counts
 unfoldable pub opened : Picks → Shelved → Machine
 opened p s =
     record {
@@ -122,7 +123,7 @@ call_reply b m c = ok_unless (refuses b m c) tt
 abbrev pub run_reply : Bench → Machine → ℕ → Result Report Refusal
 run_reply b m k = ok_unless (refuses b m (run_for k)) (report (call b (run_for k) m))
 
--- THE QUESTIONS: the settled code of a part; the choice, and the named holds, into a row of some length
+-- THE QUESTIONS: the settled code of a part; the choice, and the named holds, into a row
 abbrev pub settled_code : ℕ → Machine → ℕ → Result ℕ Refusal
 settled_code n m p = ok_unless (refuses_part n p None) (code (settled m.trail p))
 

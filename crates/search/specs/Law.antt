@@ -24,12 +24,14 @@ pub record Lawful (b : Bench) (p : Picks) (s : Shelved) : Type 0 where
   pub same_picker : p.n ≡ b.book.n
   pub same_shelf : s.n ≡ b.book.n
 
--- every full choice that meets the book's rules meets each lesson on the shelf, whichever parts are held
+-- every full choice that meets the book's rules meets each lesson, whichever parts are held
 abbrev pub LessonsFollow : Bench → Places → Type 0
 LessonsFollow b s =
-    (i : ℕ) (r : Rule) → lesson (at_place s i) ≡ Some r → (f : Choice) → Obeys b.book.rules f → Meets f r
+    (i : ℕ) (r : Rule) → lesson (at_place s i) ≡ Some r
+    → (f : Choice) → Obeys b.book.rules f → Meets f r
 
--- A fresh state: holds of distinct parts, an empty trail, no counts, no verdict, and lessons that follow from the book.
+-- A fresh state: holds of distinct parts, an empty trail, no counts, no verdict, and lessons that
+-- follow from the book.
 pub record Fresh (b : Bench) (m : Machine) : Type 0 where
   pub lawful : Lawful b m.picker m.shelf
   pub holds : IsTrue (is_distinct b.book.n m.holds)
@@ -40,14 +42,15 @@ pub record Fresh (b : Bench) (m : Machine) : Type 0 where
   pub turns : m.turns ≡ 0
   pub verdict : m.verdict ≡ working
 
--- A standing "fits" shows a full choice that meets every rule and keeps every hold. A standing "none fits" names only holds,
--- and no full choice that meets every rule keeps all the named ones.
+-- A standing "fits" shows a full choice that meets every rule and keeps every hold. A standing
+-- "none fits" names only holds, and no full choice that meets every rule keeps all the named ones.
 abbrev pub Stands : Bench → Machine → Verdict → Type 0
 Stands b m working = Unit {0}
 Stands b m fits = ShowsFit b.book m.holds (row b.book.n m.trail)
 Stands b m (none_fits r) = NamesClash b.book m.holds r
 
--- the budgets of the accepted runs since the last fresh start: the first state, or the last accepted hold or release
+-- the budgets of the accepted runs since the last fresh start: the first state, or the last
+-- accepted hold or release
 abbrev pub counted : Call → Option Refusal → ℕ → ℕ
 counted (hold p s) None g = 0
 counted (hold p s) (Some why) g = g
@@ -71,16 +74,18 @@ pub record Promised (b : Bench) (m : Machine) (given : ℕ) : Type 0 where
   -- and a verdict comes
   pub comes : most_steps b.book.n ≤ given → IsTrue (stands m.verdict)
 
--- THE LAW: for every forgetting rule, from every fresh state, after every list of calls with any numbers, refused ones anywhere
+-- THE LAW: for every forgetting rule, from every fresh state, after every list of calls with any
+-- numbers, refused ones anywhere
 abbrev pub SearchKeepsItsPromises : Type 0
 SearchKeepsItsPromises =
-    (b : Bench) (m : Machine) (cs : List Call) → Fresh b m → Promised b (calls b cs m) (budgets b cs m 0)
+    (b : Bench) (m : Machine) (cs : List Call) → Fresh b m
+    → Promised b (calls b cs m) (budgets b cs m 0)
 
 -- an opening is a fresh state, and so is each state after an accepted hold or release
 pub record FreshStart (b : Bench) : Type 0 where
   pub opening : (p : Picks) (s : Shelved) → Lawful b p s → Fresh b (opened p s)
-  pub restart : (m : Machine) (cs : List Call) (hs : List Mark) → Fresh b m → IsTrue (is_distinct b.book.n hs)
-      → Fresh b (restarted (calls b cs m) hs)
+  pub restart : (m : Machine) (cs : List Call) (hs : List Mark) → Fresh b m
+      → IsTrue (is_distinct b.book.n hs) → Fresh b (restarted (calls b cs m) hs)
 
 abbrev pub FreshStarts : Type 0
 FreshStarts = (b : Bench) → FreshStart b
@@ -90,8 +95,8 @@ is_run (hold p s) = false
 is_run (release p) = false
 is_run (run_for k) = true
 
--- What a call leaves alone: a refused one everything, a hold or a release the lessons and the place last written, a run under a
--- standing verdict everything.
+-- What a call leaves alone: a refused one everything, a hold or a release the lessons and the place
+-- last written, a run under a standing verdict everything.
 pub record Leaves (b : Bench) (m : Machine) (c : Call) : Type 0 where
   pub refused : (why : Refusal) → refuses b m c ≡ Some why → call b c m ≡ m
   pub lessons : IsFalse (is_run c) → ((call b c m).shelf ≡ m.shelf) × ((call b c m).last ≡ m.last)

@@ -1,7 +1,7 @@
 -- The search machine: one step, the turn, the place written, forgetting, the run.
 use Rattle.std.specs.Prelude.{ℕ, zero, suc, ◌+◌, ◌-◌, Bool, true, false, if◌then◌else◌, not, ◌&&◌, List, [], ◌∷◌, ◌++◌, map, length, replicate, Some, None, Option, ◌==◌, nat_le, nat_lt}
 use Rattle.std.specs.List.{count_by, filter, find, list_any, range_with_len}
-use Rattle.std.specs.Option.{option_and_then, option_map, option_or, unwrap_or}
+use Rattle.std.specs.Option.{option_and_then, option_or, unwrap_or}
 use Rattle.parts.specs.Lists.{at_place}
 use Rattle.parts.specs.Marks.{opposite_of}
 use Rattle.parts.specs.Rows.{Row, row_marks, names_mark, is_full}
@@ -33,8 +33,8 @@ pub data Verdict : Type 0 where
 abbrev pub Places : Type 0
 Places = List (Option Row)
 
--- A session's state: what the picker means, the holds in the order in which they were accepted, the trail, what the shelf means,
--- the place last written, the counts, the verdict.
+-- A session's state: what the picker means, the holds in the order in which they were accepted, the
+-- trail, what the shelf means, the place last written, the counts, the verdict.
 pub record Machine : Type 0 where
   pub picker : Picks
   pub holds : List Mark
@@ -91,9 +91,10 @@ pub data Move : Type 0 where
   fit : Move
   ask : Move
 
--- A step does the first of six that applies: a turn on the first broken rule; the first pressing rule's open mark is forced;
--- a turn on the reason of the earliest hold that is settled on the other side; the earliest hold that is open is settled;
--- all parts are settled, so it fits; the picker is asked.
+-- A step does the first of six that applies: a turn on the first broken rule; the first pressing
+-- rule's open mark is forced; a turn on the reason of the earliest hold that is settled on the
+-- other side; the earliest hold that is open is settled; all parts are settled, so it fits; the
+-- picker is asked.
 abbrev pub choose : Option Reason → Option Press → Option Reason → Option Mark → Bool → Move
 choose (Some r) p c h s = turn_on r
 choose None (Some p) c h s = force p
@@ -114,13 +115,14 @@ look b m =
     (find (λ h. says_open (truth now h)) m.holds)
     (is_full now)
 
--- THE TURN takes entries off the trail from the newest. The working rule is kept as the row of the marks that it names.
--- A forced part is resolved: the marks of the working rule and of the reason, each once, without the two marks of that part.
+-- THE TURN takes entries off the trail from the newest. The working rule is kept as the row of the
+-- marks that it names. A forced part is resolved: the marks of the working rule and of the reason,
+-- each once, without the two marks of that part.
 unfoldable pub resolve : ℕ → Row → Option Rule → Row
 resolve p c None = c
 resolve p c (Some r) = leave p (enter c r)
 
--- an entry whose opposite is not in the working rule is passed, and a held one leaves the rule alone
+-- an entry whose opposite is not in the working rule is passed; a held one leaves the rule alone
 abbrev pub worked : Bool → Kind → ℕ → Row → (Reason → Option Rule) → Row
 worked false k p c at = c
 worked true Held p c at = c
@@ -182,7 +184,7 @@ is_forgotten (Both k m) s u = nat_lt k s && nat_le m u
 unfoldable pub open_count : Row → Rule → ℕ
 open_count now r = count_by (λ m. says_open (truth now m)) r
 
--- whether the lesson in a place is cleared: it is forgotten, and no reason on the trail; `now` is the settled row
+-- whether a place is cleared: its lesson is forgotten, and no reason; `now` is the settled row
 unfoldable pub drops : Forgetting → Row → Trail → ℕ → Option Row → Bool
 drops f now t i None = false
 drops f now t i (Some r) =
@@ -204,8 +206,9 @@ named_holds n c hs = enter (replicate n 0) (filter (λ h. names_mark c (opposite
 unfoldable pub pushed : Machine → Mark → Kind → Machine
 pushed m x k = record m { trail = record { mark = x; kind = k } ∷ m.trail; steps = suc m.steps }
 
--- a turn has ended: at the bottom no choice fits; at a pick the working rule is written as a lesson, the opposite mark is forced
--- by it, and lessons are forgotten (a shelf on which every place is a reason takes no lesson: place 0 stands for none)
+-- a turn has ended: at the bottom no choice fits; at a pick the working rule is written as a
+-- lesson, the opposite mark is forced by it, and lessons are forgotten (a shelf on which every
+-- place is a reason takes no lesson: place 0 stands for none)
 unfoldable pub turned : Bench → Machine → Outcome → Machine
 turned b m (bottom c) =
     record m {

@@ -63,7 +63,7 @@ says_open is_true = false
 says_open is_false = false
 says_open is_open = true
 
--- A rule is broken when all its marks are false, pressing when all but one are false and that one is open.
+-- A rule is broken when all marks are false, pressing when all but one are and that one is open.
 pub data State : Type 0 where
   broken : State
   pressing : Mark → State

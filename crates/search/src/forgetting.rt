@@ -1,6 +1,7 @@
 //! Forgetting rules.
 
-/// Which lessons are forgotten at the end of a turn (clause deletion). With s marks, u of them open, a lesson is:
+/// Which lessons are forgotten at the end of a turn (clause deletion). With s marks, u of them
+/// open, a lesson is:
 #[derive(Clone, Copy, Debug, PartialEq, Eq)]
 pub enum Forgetting {
     /// never

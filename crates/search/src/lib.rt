@@ -1,5 +1,9 @@
-//! The search by definition: its types, and the law that holds after every list of calls. The definitions are in specs/.
+//! The search by definition: its types, and the law that holds after every list of calls. The
+//! definitions are in specs/.
 #![tactic(auto)]
+
+ghost use Rattle.std.specs.Prelude.{◌≡◌};
+ghost use Rattle.search.specs.Law.{SearchKeepsItsPromises, CallsLeaveTheRest, FreshStarts};
 
 mod entry;
 mod forgetting;
@@ -10,3 +14,16 @@ pub use entry::{Entry, Kind};
 pub use forgetting::Forgetting;
 pub use reason::Reason;
 pub use report::{Answer, Report};
+
+/// The law of the search: `SearchKeepsItsPromises` in specs/Law.antt, from every fresh state; which
+/// states are fresh; and what a call leaves alone.
+/// Returns how many promises it keeps of a state: lessons, verdict, turns, steps, verdict to come.
+#[tactic(auto, using(crate::proofs::Promises::search_keeps_its_promises, crate::proofs::Promises::fresh_starts, crate::proofs::Promises::calls_leave_the_rest))]
+pub fn search_stands() -> usize
+    ensures count { result ≡ 5 }
+    ensures law { SearchKeepsItsPromises }
+    ensures fresh { FreshStarts }
+    ensures rest { CallsLeaveTheRest }
+{
+    5
+}

@@ -4,7 +4,7 @@ ghost use Rattle.search.specs.Words.{answer_text};
 
 use std::fmt;
 
-/// What a run answers: that a choice fits, that none fits, or that its budget is spent before a verdict.
+/// What a run answers: a choice fits, none fits, or the budget is spent before a verdict.
 #[derive(Clone, Copy, Debug, PartialEq, Eq)]
 pub enum Answer {
     Fits,
@@ -25,7 +25,8 @@ impl fmt::Display for Answer {
     }
 }
 
-/// The reply of a run: its answer, and the steps and turns since the opening or the last accepted hold or release.
+/// The reply of a run: its answer, and the steps and turns since the opening or the last accepted
+/// hold or release.
 #[derive(Clone, Copy, Debug, PartialEq, Eq)]
 pub struct Report {
     pub answer: Answer,
