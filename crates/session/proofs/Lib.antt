@@ -1,2 +1,2 @@
+pub mod Steps
 pub mod Looking
-pub mod Runs

@@ -1,3 +1,3 @@
-pub mod Standing
-pub mod View
+pub mod Verdicts
+pub mod Inner
 pub mod Moving

@@ -1,10 +1,15 @@
 -- A step's move as the search has it, and what is open before it.
-use Rattle.std.specs.Prelude.{◌≡◌, ◌≤◌, None}
-use Rattle.parts.specs.declared.Mark.{Mark}
-use Rattle.search.specs.Trail.{Trail, settled}
+use Rattle.std.specs.Prelude.{List, None, IsTrue}
+use Rattle.std.specs.List.{find}
+use Rattle.std.specs.Option.{option_and_then}
+use Rattle.parts.specs.declared.mark.Mark.{Mark}
+use Rattle.parts.specs.Rows.{Row, is_full}
+use Rattle.search.specs.Trail.{row, reason_of, truth, says_false, says_open}
 use Rattle.search.specs.Machine as machine
-use Rattle.session.specs.declared.step.Move.{Move}
-use Rattle.session.specs.declared.step.Move.TheVariants.{TurnOn, Force, Settle, Fit, Ask}
+use Rattle.search.specs.Machine.{choose}
+use Rattle.trail.specs.Settling.{Settling, can_settle}
+use Rattle.session.specs.declared.moves.Move.{Move}
+use Rattle.session.specs.declared.moves.Move.TheVariants.{TurnOn, Force, Settle, Fit, Ask}
 
 abbrev pub as_move : Move → machine.Move
 as_move (TurnOn r) = machine.turn_on r
@@ -13,14 +18,19 @@ as_move (Settle h) = machine.settle h
 as_move Fit = machine.fit
 as_move Ask = machine.ask
 
--- a part from 1 to 120 that the trail leaves open
-abbrev pub Open : Trail → Mark → Type 0
-Open t m = (1 ≤ m.part) × (m.part ≤ 120) × (settled t m.part ≡ None)
-
 -- the mark that a move settles is open
-abbrev pub Settles : Trail → Move → Type 0
+abbrev pub Settles : Settling → Move → Type 0
 Settles t (TurnOn r) = Unit {0}
-Settles t (Force m r) = Open t m
-Settles t (Settle h) = Open t h
+Settles t (Force m r) = IsTrue (can_settle t m)
+Settles t (Settle h) = IsTrue (can_settle t h)
 Settles t Fit = Unit {0}
 Settles t Ask = Unit {0}
+
+-- what a step does under these holds where no rule is broken or pressing
+abbrev pub move_by_holds : Settling → List Mark → machine.Move
+move_by_holds t hs =
+    let now : Row = row t.n t.entries in
+    choose None None
+    (option_and_then (λ h. reason_of t.entries h.part) (find (λ h. says_false (truth now h)) hs))
+    (find (λ h. says_open (truth now h)) hs)
+    (is_full now)

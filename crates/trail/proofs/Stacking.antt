@@ -57,6 +57,10 @@ popped n t row e w =
     let o : settled t e.mark.part ≡ None = grind (arith, w.apart, settled_names t e.mark.part) in
     (lo, hi, record { few = w.few; apart = grind (arith, w.apart); shows = rw w.shows (row_pop MOST_PARTS e t lo (omega (arith, w.few)) o) })
 
+-- and its part is open again
+pub vacated : (n : ℕ) (t : List Entry) (row : Row) (e : Entry) → IsTrail n (e ∷ t) row → can_settle (record { n = n; entries = t }) e.mark ≡ true
+vacated n t row e w = grind (arith, nat_tests, w.apart, settled_names t e.mark.part)
+
 -- the front of the row is the row of n parts
 pub row_front : (n : ℕ) (t : List Entry) (row : Row) → IsTrail n t row → take n row ≡ row_of n t
 row_front n t row w = rw w.shows (rows.row_front n MOST_PARTS t w.few)

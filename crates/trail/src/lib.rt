@@ -1,7 +1,7 @@
 //! The trail: what is settled, in its order, and why.
 #![tactic(auto)]
 
-ghost use Rattle.std.specs.Prelude.{◌≡◌, ◌-◌, ◌≤◌, min, [], ◌∷◌, if◌then◌else◌, slice_index};
+ghost use Rattle.std.specs.Prelude.{◌≡◌, ◌-◌, ◌≤◌, min, [], ◌∷◌, if◌then◌else◌, slice_index, IsTrue, IfSome};
 ghost use Rattle.std.specs.List.{find};
 ghost use Rattle.std.specs.Option.{option_and_then};
 ghost use Rattle.search.specs.Trail.{row as row_of, settled, reason_of, truth, says_false, says_open};
@@ -106,10 +106,11 @@ impl Trail {
     }
 
     /// Takes the newest entry off, and returns it; nothing where nothing is settled.
-    #[tactic(auto, using(std::proofs::lemmas::Grind::common_steps, crate::proofs::Stacking::popped))]
+    #[tactic(auto, using(std::proofs::lemmas::Grind::common_steps, crate::proofs::Stacking::popped, crate::proofs::Stacking::vacated))]
     pub fn pop(&mut self) -> Option<Entry>
         ensures value { result ≡ newest self.old.entries }
         ensures after { self.new ≡ record self.old { entries = older self.old.entries } }
+        ensures vacant { IfSome result (λ e. IsTrue (can_settle self.new e.mark)) }
     {
         let entry = self.entries.pop()?;
         self.row[entry.mark.part - 1] = 0;

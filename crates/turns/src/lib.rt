@@ -1,7 +1,8 @@
 //! The turn: the working rule, kept as the row of the marks that it names, is resolved down the trail.
 #![tactic(auto)]
 
-ghost use Rattle.std.specs.Prelude.{◌≡◌, [], length, is_some, None};
+ghost use Rattle.std.specs.Prelude.{◌≡◌, [], length, is_some, None, IsTrue, IfSome};
+ghost use Rattle.trail.specs.Settling.{can_settle};
 ghost use Rattle.rules.specs.Listing.{rule_in};
 ghost use Rattle.search.specs.Machine.{marks_at, named_holds, resolve as resolved, turn as turned_at};
 ghost use Rattle.search.specs.Trail.{enter as entered};
@@ -74,6 +75,7 @@ impl<B: Book, S: Shelf> Reasons<'_, B, S> {
             ≡ turned_at (rule_by B.Book.meaning S.Shelf.meaning self.now) row.old trail.old.entries
         }
         ensures bottom { result ≡ None → trail.new.entries ≡ [] }
+        ensures vacant { IfSome result (λ x. IsTrue (can_settle trail.new x)) }
         ensures parts { trail.new.n ≡ trail.old.n }
         ensures long { length row.new ≡ length row.old }
     {
