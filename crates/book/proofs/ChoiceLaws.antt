@@ -25,19 +25,19 @@ takes_shows f m h = grind arith
 
 -- tests along a list, where each says what a fact says
 module _ {A : Type 0} (p : A → _) (P : A → Type 0) where
-  all_says : ((a : A) → p a ≡ true → P a) → (xs : List A) → list_all p xs ≡ true → (a : A) → Among a xs → P a
+  pub all_says : ((a : A) → p a ≡ true → P a) → (xs : List A) → list_all p xs ≡ true → (a : A) → Among a xs → P a
   all_says f [] h a i = absurd i
   all_says f (x ∷ xs) h a i = grind (arith, f a, all_says f xs)
 
-  all_shows : ((a : A) → P a → p a ≡ true) → (xs : List A) → ((a : A) → Among a xs → P a) → list_all p xs ≡ true
+  pub all_shows : ((a : A) → P a → p a ≡ true) → (xs : List A) → ((a : A) → Among a xs → P a) → list_all p xs ≡ true
   all_shows f [] h = refl
   all_shows f (x ∷ xs) h = grind (arith, f x, h x, all_shows f xs (λ a i. grind (arith, h a)))
 
-  any_says : ((a : A) → p a ≡ true → P a) → (xs : List A) → list_any p xs ≡ true → (a : A) × Among a xs × P a
+  pub any_says : ((a : A) → p a ≡ true → P a) → (xs : List A) → list_any p xs ≡ true → (a : A) × Among a xs × P a
   any_says f [] h = grind arith
   any_says f (x ∷ xs) h = grind (arith, f x, any_says f xs)
 
-  any_shows : ((a : A) → P a → p a ≡ true) → (xs : List A) (a : A) → Among a xs → P a → list_any p xs ≡ true
+  pub any_shows : ((a : A) → P a → p a ≡ true) → (xs : List A) (a : A) → Among a xs → P a → list_any p xs ≡ true
   any_shows f [] a i q = absurd i
   any_shows f (x ∷ xs) a i q = grind (arith, f a, any_shows f xs a)
 

@@ -16,6 +16,8 @@ use Rattle.search.specs.declared.forgetting.Forgetting.{Forgetting}
 use Rattle.search.specs.declared.forgetting.Forgetting.TheVariants.{KeepAll, Size, Relevance, Bounded, Both}
 use Rattle.search.specs.declared.reason.Reason.{Reason}
 use Rattle.search.specs.declared.reason.Reason.TheVariants.{Book, Shelf}
+use Rattle.search.specs.declared.report.Answer.{Answer}
+use Rattle.search.specs.declared.report.Answer.TheVariants.{Fits, NoneFits}
 use Rattle.search.specs.Trail.{Trail, row, reason_of, truth, says_false, says_open, State, broken, pressing, quiet, state, enter, leave}
 
 -- What a session is opened with and keeps: what the book means, and the forgetting rule.
@@ -256,6 +258,12 @@ abbrev pub stands : Verdict → Bool
 stands working = false
 stands fits = true
 stands (none_fits r) = true
+
+-- the answer of the verdict that stands, if one does
+abbrev pub standing : Verdict → Option Answer
+standing working = None
+standing fits = Some Fits
+standing (none_fits r) = Some NoneFits
 
 -- THE RUN: steps until the budget is used or a verdict stands
 unfoldable pub run : Bench → ℕ → Machine → Machine

@@ -1,5 +1,5 @@
 -- What a step does; open marks; and a run, a step at a time.
-use Rattle.std.proofs.Common.{◌≡◌, ℕ, suc, ◌+◌, ◌-◌, ◌<◌, ◌≤◌, true, false, List, [], ◌∷◌, take, set, length, replicate, Some, inl, inr, refl, arith}
+use Rattle.std.proofs.Common.{◌≡◌, ℕ, suc, ◌+◌, ◌-◌, ◌<◌, ◌≤◌, true, false, List, [], ◌∷◌, ◌++◌, take, set, length, replicate, Some, inl, inr, refl, arith}
 use Rattle.std.proofs.Math.Seq.{take-set-lt}
 use Rattle.std.proofs.lemmas.Grind.{common_steps}
 use Rattle.std.proofs.lemmas.Bool.Decides.{nat_tests}
@@ -8,7 +8,9 @@ use Rattle.std.proofs.lemmas.List.{set_past, take-replicate, take-set-le}
 use Rattle.parts.specs.Codes.{code_of}
 use Rattle.parts.specs.declared.limits.TheConstants.{MOST_PARTS}
 use Rattle.parts.specs.declared.mark.Mark.{Mark}
+use Rattle.parts.specs.Distinct.{names, is_part, is_distinct, released}
 use Rattle.parts.specs.Rows.{Row}
+use Rattle.parts.proofs.DistinctLaws.{is_distinct_push, released_distinct}
 use Rattle.book.specs.Meaning.{Rule, RuleBook, Sound}
 use Rattle.picker.specs.Meaning.{Picks, picked, Sound as SoundPicks}
 use Rattle.search.specs.Trail.{Trail, row, enter}
@@ -59,3 +61,10 @@ picked_open p n t x s e h = grind (arith, nat_tests, s.frees (row n t), answer_o
 pub run_more : (b : Bench) (k i : ℕ) (m : Machine) → i < k → stands m.verdict ≡ false → run b (k - i) m ≡ run b (k - (i + 1)) (step b m)
 unfolding run
 run_more b k i m l h = let e : k - i ≡ suc (k - (i + 1)) = omega arith in rw (e, h, run)
+
+-- the holds of a session after a hold, and after a release
+pub held_more : (n : ℕ) (hs : List Mark) (m : Mark) → is_distinct n hs ≡ true → is_part n m.part ≡ true → names hs m.part ≡ false → is_distinct n (hs ++ m ∷ []) ≡ true
+held_more n hs m s p f = is_distinct_push n hs m s (grind (arith, nat_tests)) (grind (arith, nat_tests)) f
+
+pub held_less : (n p : ℕ) (hs : List Mark) → is_distinct n hs ≡ true → is_distinct n (released p hs) ≡ true
+held_less n p hs s = (released_distinct n p hs s).0

@@ -4,10 +4,12 @@
 mod budget;
 mod moves;
 mod search_state;
+mod session;
 
 
 mod verdict;
 
 pub use budget::check_budget;
+pub use session::Session;
 
 

@@ -1,21 +1,23 @@
 //! A search under way: what it was opened with, and its state; the whole step on one page.
 ghost use Rattle.std.specs.Prelude.{◌≡◌, ◌≤◌, [], IsTrue};
 ghost use Rattle.parts.specs.Distinct.{is_distinct};
+ghost use Rattle.search.specs.Calls.{emptied, in_range, ok_unless, refuses_open};
 ghost use Rattle.trail.specs.Settling.{can_settle};
 ghost use Rattle.session.specs.Moving.{as_move, Settles, move_by_holds};
 ghost use Rattle.parts.specs.declared.limits.TheConstants.{MOST_STEPS};
 
+use crate::budget::check_budget;
 use crate::moves::Move;
 use crate::verdict::Verdict;
 use book::Book;
 use lessons::{next_place, sweep};
 use parts::limits::{MOST_PARTS, MOST_STEPS};
 use parts::row::is_full;
-use parts::{Holds, Mark};
+use parts::{Holds, Mark, Refusal, Side};
 use picker::Picker;
 use rules::{BookRules, RuleList, ShelfRules};
 use scan::{Scan, Scanned};
-use search::{Forgetting, Kind, Reason};
+use search::{Answer, Forgetting, Kind, Reason, Report};
 use shelf::Shelf;
 use trail::Trail;
 use turns::{Reasons, name_holds};
@@ -46,8 +48,37 @@ impl<B: Book, P: Picker, S: Shelf> Search<B, P, S> {
     ghost use Rattle.picker.specs.Meaning.{picked as picked_by};
     ghost use Rattle.search.specs.Trail.{row as settled_row};
     ghost use Rattle.search.specs.Machine.{act, asked, bottom, choose, fit, look as look_of, pushed, step as step_of, stop, turn_on, turned, fitted};
+    ghost use Rattle.search.specs.Machine.{stands, standing};
+    ghost use Rattle.search.specs.Calls.{hold as held, release as let_out, run_for, call, call_reply, run_reply, report, opened, restarted};
+    ghost use Rattle.parts.specs.Distinct.{is_part};
+    ghost use Rattle.std.specs.Prelude.{not};
     ghost use Rattle.session.specs.Inner.{bench_in, state_in, Going, Kept};
 
+
+    // A search that begins under these holds: every place is cleared, nothing is settled, and nothing counted.
+    #[tactic(auto, using(std::proofs::lemmas::Bool::Decides::nat_tests, std::proofs::lemmas::Grind::common_steps), unfolding(search::specs::Calls::opened, search::specs::Calls::restarted))]
+    pub(crate) fn new(book: B, picker: P, mut shelf: S, forget: Forgetting, holds: Holds) -> Search<B, P, S>
+        requires same_picker { (P.meaning picker).n ≡ (B.meaning book).n }
+        requires same_shelf { (S.meaning shelf).n ≡ (B.meaning book).n }
+        requires held { IsTrue (is_distinct (B.meaning book).n holds) }
+        ensures state { state_in result ≡ restarted (opened (P.meaning picker) (S.meaning shelf)) holds }
+        ensures kept { (result.book ≡ book) × (result.picker ≡ picker) × (result.forget ≡ forget) }
+    {
+        clear_all(&mut shelf);
+        let trail = Trail::new(book.n());
+        Search {
+            book,
+            picker,
+            shelf,
+            forget,
+            holds,
+            trail,
+            last: 0,
+            steps: 0,
+            turns: 0,
+            verdict: Verdict::Working,
+        }
+    }
 
     // Does one step, where no verdict stands.
     #[tactic(auto, unfolding(search::specs::Machine::step, search::specs::Machine::act, search::specs::Machine::fitted))]
@@ -178,6 +209,110 @@ impl<B: Book, P: Picker, S: Shelf> Search<B, P, S> {
         name_holds(self.holds.marks(), work, &mut named);
         self.verdict = Verdict::NoneFits(named);
     }
+
+    // Holds a part on the side of a code, 1 in or 2 out; the search starts again.
+    #[tactic(auto, using(std::proofs::lemmas::Bool::Decides::nat_tests, std::proofs::lemmas::Result::err_from_is_err_and, crate::proofs::Steps::held_more), unfolding(search::specs::Calls::call, search::specs::Calls::refuses, search::specs::Calls::accepted, search::specs::Calls::restarted))]
+    pub(crate) fn hold(&mut self, part: usize, code: u64) -> Result<(), Refusal>
+        ensures answer { result ≡ call_reply (bench_in self.old) (state_in self.old) (held part code) }
+        ensures after { state_in self.new ≡ call (bench_in self.old) (held part code) (state_in self.old) }
+        ensures kept { Kept self.old self.new }
+    {
+        if self.no_part(part) {
+            return Err(Refusal::PartOutOfRange);
+        }
+        let side = Side::try_from(code)?;
+        if !self.holds.add(Mark { part, side }) {
+            return Err(Refusal::AlreadyHeld);
+        }
+        self.restart();
+        Ok(())
+    }
+
+    // Holds a part no more; the search starts again.
+    #[tactic(auto, using(std::proofs::lemmas::Bool::Decides::nat_tests, crate::proofs::Steps::held_less), unfolding(search::specs::Calls::call, search::specs::Calls::refuses, search::specs::Calls::accepted, search::specs::Calls::restarted))]
+    pub(crate) fn release(&mut self, part: usize) -> Result<(), Refusal>
+        ensures answer { result ≡ call_reply (bench_in self.old) (state_in self.old) (let_out part) }
+        ensures after { state_in self.new ≡ call (bench_in self.old) (let_out part) (state_in self.old) }
+        ensures kept { Kept self.old self.new }
+    {
+        if self.no_part(part) {
+            return Err(Refusal::PartOutOfRange);
+        }
+        if !self.holds.names(part) {
+            return Err(Refusal::NotHeld);
+        }
+        self.holds.remove(part);
+        self.restart();
+        Ok(())
+    }
+
+    // The search starts again under its holds, with the lessons it has.
+    #[tactic(auto, unfolding(search::specs::Calls::restarted))]
+    fn restart(&mut self)
+        ensures after { state_in self.new ≡ restarted (state_in self.old) self.old.holds }
+        ensures kept { Kept self.old self.new }
+    {
+        self.trail.clear();
+        self.steps = 0;
+        self.turns = 0;
+        self.verdict = Verdict::Working;
+    }
+
+    // Steps until the budget is used or a verdict stands.
+    #[tactic(auto, using(std::proofs::lemmas::Bool::Decides::nat_tests, crate::proofs::Steps::run_more, search::proofs::Promises::act_steps, search::proofs::Promises::run_stood_same), unfolding(search::specs::Calls::call, search::specs::Calls::refuses, search::specs::Calls::accepted, search::specs::Machine::run, search::specs::Machine::step))]
+    pub(crate) fn run(&mut self, budget: usize) -> Result<Report, Refusal>
+        ensures answer { result ≡ run_reply (bench_in self.old) (state_in self.old) budget }
+        ensures after { state_in self.new ≡ call (bench_in self.old) (run_for budget) (state_in self.old) }
+        ensures kept { Kept self.old self.new }
+    {
+        check_budget(budget)?;
+        if !self.stands() && self.steps + budget > MOST_STEPS {
+            return Err(Refusal::StepsOutOfRange);
+        }
+        for _ in 0..budget {
+            if self.stands() {
+                break;
+            }
+            self.step();
+        }
+        Ok(self.report())
+    }
+
+    // Whether a verdict stands.
+    fn stands(&self) -> bool
+        ensures { result ≡ stands (state_in self.now).verdict }
+    {
+        !matches!(self.verdict, Verdict::Working)
+    }
+
+    // The verdict that stands, if one does.
+    pub(crate) fn standing(&self) -> Option<Answer>
+        ensures { result ≡ standing (state_in self.now).verdict }
+    {
+        match self.verdict {
+            Verdict::Working => None,
+            Verdict::Fits => Some(Answer::Fits),
+            Verdict::NoneFits(_) => Some(Answer::NoneFits),
+        }
+    }
+
+    // The answer and the counts.
+    pub(crate) fn report(&self) -> Report
+        ensures { result ≡ report (state_in self.now) }
+    {
+        Report {
+            answer: self.verdict.answer(),
+            steps: self.steps,
+            turns: self.turns,
+        }
+    }
+
+    // Whether a number is no part's.
+    pub(crate) fn no_part(&self, part: usize) -> bool
+        ensures { result ≡ not (is_part (bench_in self.now).book.n part) }
+    {
+        part == 0 || part > self.book.n()
+    }
 }
 
 // Where no rule is broken or pressing: a turn on the reason of a crossed hold, an open hold, a fit, or a question.
@@ -197,5 +332,47 @@ fn move_by_holds(trail: &Trail, holds: &[Mark]) -> Move
         Move::Fit
     } else {
         Move::Ask
+    }
+}
+
+// Whether a session may be opened: book, picker and shelf have one n, and no forgetting number is above 120.
+pub(crate) fn check_opening<B: Book, P: Picker, S: Shelf>(
+    book: &B,
+    picker: &P,
+    shelf: &S,
+    forget: Forgetting,
+) -> Result<(), Refusal>
+    ensures { result ≡ ok_unless (refuses_open (B.meaning book.now).n (P.meaning picker.now).n (S.meaning shelf.now).n forget) tt }
+{
+    let n = book.n();
+    if n != picker.n() || n != shelf.n() {
+        return Err(Refusal::OpenPartsDiffer);
+    }
+    if !in_range(forget) {
+        return Err(Refusal::ForgettingOutOfRange);
+    }
+    Ok(())
+}
+
+// Whether no number of a forgetting rule is above 120.
+fn in_range(forget: Forgetting) -> bool
+    ensures { result ≡ in_range forget }
+{
+    match forget {
+        Forgetting::KeepAll => true,
+        Forgetting::Size(most) | Forgetting::Relevance(most) | Forgetting::Bounded(most) => {
+            most <= MOST_PARTS
+        }
+        Forgetting::Both(k, m) => k <= MOST_PARTS && m <= MOST_PARTS,
+    }
+}
+
+// Empties every place.
+#[tactic(auto, using(std::proofs::lemmas::Grind::common_steps, shelf::proofs::Filling::fill_more))]
+fn clear_all<S: Shelf>(shelf: &mut S)
+    ensures { S.Shelf.meaning shelf.new ≡ emptied (S.Shelf.meaning shelf.old) }
+{
+    for before in 0..shelf.places() {
+        let _ = shelf.clear(before + 1);
     }
 }
