@@ -1,19 +1,23 @@
 -- The walks over bays and over the pairs of a bay.
-use Rattle.std.proofs.Common.{◌≡◌, ◌↔◌, ℕ, zero, suc, ◌+◌, ◌-◌, ◌*◌, ◌/◌, ◌<◌, ◌≤◌, nat_lt, cond, List, [], ◌∷◌, ◌++◌, map, length, get_or, drop, slice_get, option_map, Some, refl, arith, ⊎_elim, Bool, true}
-use Rattle.std.proofs.lemmas.Bool.{cases_Bool}
+use Rattle.std.proofs.Common.{◌≡◌, ◌↔◌, ℕ, zero, suc, ◌+◌, ◌-◌, ◌*◌, ◌/◌, ◌<◌, ◌≤◌, nat_lt, cond, List, [], ◌∷◌, ◌++◌, map, length, get_or, drop, slice_get, option_map, Some, refl, arith, ◌⊎◌, inl, inr, ⊎_elim}
 use Rattle.std.proofs.lemmas.Bool.Decides.{nat_tests}
 use Rattle.std.proofs.lemmas.Grind.{common_steps}
 use Rattle.std.proofs.lemmas.List.{at_drop_more}
 use Rattle.std.specs.List.{range_with_len, AllByRecursion}
 use Rattle.std.proofs.lemmas.List.FromFn.{length-map-range_with_len, get_or-map-range_with_len}
 use Rattle.std.proofs.lemmas.Option.{gets}
+use Rattle.std.proofs.lemmas.List.Elements.{All-from_recursion, recursion_from_All}
+use Rattle.parts.specs.declared.side.Side.{Side}
+use Rattle.parts.specs.declared.side.Side.TheVariants.{In, Out}
+use Rattle.parts.proofs.Among.{any_among, among_any}
+use Rattle.book.specs.Choices.{Choice, Takes, Meets}
 use Rattle.book.specs.Meaning.{Rule}
 use Rattle.bays.specs.Meaning.{in_mark, some_in, not_both, pairs, bay_rules, bays_rules, pair_count, bay_count, out_mark}
-use Rattle.bays.specs.Fit.{length_pairs}
-use Rattle.bays.specs.Law.{Meets, InBay, OneIn, OneInEach, HoldOne}
+use Rattle.bays.specs.Proved.{length_pairs}
+use Rattle.bays.specs.Law.{InBay, OneIn, OneInEach, HoldOne}
 
--- what stands in a list that is made of a range
-pub ruleset made = (common_steps, gets, length-map-range_with_len, get_or-map-range_with_len)
+-- what stands in a list that is mapped from a range
+pub ruleset mapped = (common_steps, gets, length-map-range_with_len, get_or-map-range_with_len)
 
 -- the number of pairs, as it is computed
 pairs_twice : (w : ℕ) → 2 * pair_count (suc w) ≡ suc w * w
@@ -38,29 +42,33 @@ module _ (from w : ℕ) (ws : List ℕ) (number : ℕ) where
 -- a pair with the first part of the bay, or with a later one
 pub pair_turn : (low w left : ℕ) → 1 ≤ w → slice_get (pairs low w) left ≡ cond (nat_lt left (w - 1)) (Some (not_both low (low + 1 + left))) (slice_get (pairs (low + 1) (w - 1)) (left - (w - 1)))
 pair_turn low zero left h = absurd (omega arith)
-pair_turn low (suc w) left h = grind (arith, nat_tests, made)
+pair_turn low (suc w) left h = grind (arith, nat_tests, mapped)
 
 -- each pair's rule has two marks
 pub two_at : (from w k : ℕ) → k < pair_count w → option_map length (slice_get (pairs from w) k) ≡ Some 2
 two_at from zero k h = absurd (omega arith)
-two_at from (suc w) k h = grind (arith, made, two_at (from + 1) w (k - w))
+two_at from (suc w) k h = grind (arith, mapped, two_at (from + 1) w (k - w))
 
 -- The rules of bays hold exactly where one part of each bay is in.
 split : {X : Type 0} (P : X → Type 0) (xs ys : List X) → AllByRecursion P (xs ++ ys) ↔ (AllByRecursion P xs × AllByRecursion P ys)
 split P [] ys = (λ a. (tt, a), λ a. a.1)
 split P (x ∷ xs) ys = let r = split P xs ys in (λ a. let b = r.0 a.1 in ((a.0, b.0), b.1), λ a. (a.0.0, r.1 (a.0.1, a.1)))
 
-module _ (f : ℕ → Bool) where
+side_cases : (s : Side) → (s ≡ In) ⊎ (s ≡ Out)
+side_cases In = inl refl
+side_cases Out = inr refl
+
+module _ (f : Choice) where
   -- one of two parts is out
-  pair_holds : (i j : ℕ) → Meets f (not_both i j) ↔ (f i ≡ true → f j ≡ true → ⊥)
+  pair_holds : (i j : ℕ) → Meets f (not_both i j) ↔ (f i ≡ In → f j ≡ In → ⊥)
   pair_holds i j = (
-    λ w p q. grind (arith, w.1.2 w.0),
-    λ h. ⊎_elim (λ p. (out_mark j, (1, omega arith, λ d. refl), grind (arith, h p))) (λ p. (out_mark i, (0, omega arith, λ d. refl), p)) (cases_Bool (f i)),
+    λ w p q. let (m, a, t) = any_among (Takes f) (not_both i j) w in grind arith,
+    λ h. ⊎_elim (λ p. among_any (Takes f) (not_both i j) (out_mark j) (inr (inl refl)) (grind (arith, h p, side_cases (f j)))) (λ p. among_any (Takes f) (not_both i j) (out_mark i) (inl refl) p) (side_cases (f i)),
   )
 
   -- the pairs of one part with each of w parts from another on, before further rules
   row_holds : (i a w : ℕ) (rs : List Rule) → AllByRecursion (Meets f) (map (not_both i) (range_with_len a w) ++ rs)
-      ↔ (((q : ℕ) → InBay a w q → f i ≡ true → f q ≡ true → ⊥) × AllByRecursion (Meets f) rs)
+      ↔ (((q : ℕ) → InBay a w q → f i ≡ In → f q ≡ In → ⊥) × AllByRecursion (Meets f) rs)
   row_holds i a zero rs = (λ all. (λ q b p s. absurd (omega arith), all), λ h. h.1)
   row_holds i a (suc w) rs =
       let here = pair_holds i a in
@@ -69,7 +77,7 @@ module _ (f : ℕ → Bool) where
         λ h. (here.1 (h.0 a (omega arith, omega arith)), r.1 (λ q b. h.0 q (omega arith, omega arith), h.1)),
       )
 
-  pairs_hold : (a w : ℕ) → AllByRecursion (Meets f) (pairs a w) ↔ ((p q : ℕ) → a ≤ p → p < q → q < a + w → f p ≡ true → f q ≡ true → ⊥)
+  pairs_hold : (a w : ℕ) → AllByRecursion (Meets f) (pairs a w) ↔ ((p q : ℕ) → a ≤ p → p < q → q < a + w → f p ≡ In → f q ≡ In → ⊥)
   pairs_hold a zero = (λ all p q low rise high fp fq. absurd (omega arith), λ h. tt)
   pairs_hold a (suc w) =
       let row = row_holds a (a + 1) w (pairs (a + 1) w) in
@@ -79,10 +87,10 @@ module _ (f : ℕ → Bool) where
       )
 
   -- some part of a bay is in
-  some_holds : (a w : ℕ) → Meets f (some_in a w) ↔ ((p : ℕ) × InBay a w p × (f p ≡ true))
+  some_holds : (a w : ℕ) → Meets f (some_in a w) ↔ ((p : ℕ) × InBay a w p × (f p ≡ In))
   some_holds a w = (
-    λ x. (a + x.1.0, grind (arith, made), grind (arith, made, x.1.2 x.0)),
-    λ x. (in_mark x.0, (x.0 - a, grind (arith, made), λ d. grind (arith, made)), x.2),
+    λ x. (a + x.0, grind (arith, mapped), grind (arith, mapped)),
+    λ x. (x.0 - a, in_mark x.0, grind (arith, mapped), grind (arith, mapped), x.2),
   )
 
   bay_holds : (a w : ℕ) → AllByRecursion (Meets f) (bay_rules a w) ↔ OneIn f a w
@@ -100,4 +108,7 @@ module _ (f : ℕ → Bool) where
       (λ all. let h = s.0 all in ((bay_holds a w).0 h.0, r.0 h.1), λ o. s.1 ((bay_holds a w).1 o.0, r.1 o.1))
 
 pub hold_one : (ws : List ℕ) → HoldOne ws
-hold_one ws f = bays_hold f 1 ws
+hold_one ws f =
+    let h = bays_hold f 1 ws in
+    let rs = bays_rules 1 ws in
+    (λ o. h.0 (recursion_from_All (Meets f) rs o), λ o. All-from_recursion (Meets f) rs (h.1 o))

@@ -1,4 +1,5 @@
 pub mod Meaning
-pub mod Fit
 pub mod Spots
 pub mod Law
+pub mod Proved
+pub mod Makes

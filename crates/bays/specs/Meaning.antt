@@ -1,9 +1,11 @@
--- A book of bays: in each bay exactly one part is in (an at-least-one clause, and an at-most-one clause for each pair).
+-- A book of bays: in each bay exactly one part is in
+-- (an at-least-one clause, and an at-most-one clause for each pair).
 use Rattle.std.specs.Prelude.{ℕ, zero, suc, ◌+◌, Bool, ◌&&◌, List, [], ◌∷◌, ◌++◌, map, length, nat_le, sum, sum_by}
 use Rattle.std.specs.List.{list_all, range_with_len}
-use Rattle.parts.specs.declared.Mark.{Mark}
-use Rattle.parts.specs.declared.Side.TheVariants.{In, Out}
-use Rattle.book.specs.Meaning.{Rule, Rules}
+use Rattle.parts.specs.declared.limits.TheConstants.{MOST_PARTS, MOST_WIDTH}
+use Rattle.parts.specs.declared.mark.Mark.{Mark}
+use Rattle.parts.specs.declared.side.Side.TheVariants.{In, Out}
+use Rattle.book.specs.Meaning.{Rule, RuleBook}
 
 abbrev pub in_mark : ℕ → Mark
 in_mark p = record { part = p; side = In }
@@ -32,12 +34,9 @@ abbrev pub bays_rules : ℕ → List ℕ → List Rule
 bays_rules from [] = []
 bays_rules from (w ∷ ws) = bay_rules from w ++ bays_rules (from + w) ws
 
--- how many parts the bays have together
-abbrev pub total : List ℕ → ℕ
-total ws = sum ws
-
-abbrev pub bay_book : List ℕ → Rules
-bay_book ws = record { n = total ws; rules = bays_rules 1 ws }
+-- a book over as many parts as the bays have together
+abbrev pub bay_book : List ℕ → RuleBook
+bay_book ws = record { n = sum ws; rules = bays_rules 1 ws }
 
 -- how many rules a bay has, and all bays together
 abbrev pub pair_count : ℕ → ℕ
@@ -51,9 +50,10 @@ abbrev pub rule_count : List ℕ → ℕ
 rule_count ws = sum_by bay_count ws
 
 -- each width is from 1 to 20
-abbrev pub fit_widths : List ℕ → Bool
-fit_widths ws = list_all (λ w. nat_le 1 w && nat_le w 20) ws
+abbrev pub widths_in_range : List ℕ → Bool
+widths_in_range ws = list_all (λ w. nat_le 1 w && nat_le w MOST_WIDTH) ws
 
--- whether the widths make a book: some bays, of 1 to 20 parts each, and of at most 120 together
-abbrev pub fit_bays : List ℕ → Bool
-fit_bays ws = nat_le 1 (length ws) && (fit_widths ws && nat_le (total ws) 120)
+-- whether there is a book of bays of these widths:
+-- some bays, of 1 to 20 parts each, and of at most 120 together
+abbrev pub has_bay_book : List ℕ → Bool
+has_bay_book ws = nat_le 1 (length ws) && (widths_in_range ws && nat_le (sum ws) MOST_PARTS)

@@ -1,10 +1,10 @@
-// A book that is computed from the widths of bays: exactly one part of each bay is in. It stores no rule.
+//! A book that is computed from the widths of bays: exactly one part of each bay is in.
+//! It stores no rule.
 #![tactic(auto)]
 
-ghost use Rattle.std.specs.Prelude.{◌≡◌, true, false, if◌then◌else◌, Some, None, MatchResult};
-ghost use Rattle.parts.specs.declared.refusals.Refusal.TheVariants.{NotABook};
-ghost use Rattle.bays.specs.Meaning.{total, bay_book, rule_count, fit_bays};
-ghost use Rattle.bays.specs.Fit.{bay_sound};
+ghost use Rattle.std.specs.Prelude.{◌≡◌, IsTrue, IsFalse, if◌then◌else◌, Some, None, sum, MatchResult};
+ghost use Rattle.parts.specs.declared.refusal.Refusal.TheVariants.{NotABook};
+ghost use Rattle.bays.specs.Meaning.{bay_book, rule_count, has_bay_book};
 ghost use Rattle.bays.specs.Spots.{Spotted};
 ghost use Rattle.bays.specs.Law.{HoldOne};
 
@@ -13,26 +13,37 @@ mod spots;
 mod tests;
 
 use book::Book;
-use parts::Mark;
 use parts::limits::{MOST_PARTS, MOST_WIDTH};
-use parts::refusals::{Refusal, Refused};
+use parts::{Mark, Refusal, Refused};
 use spots::{Bay, Spot};
 
-// A book of bays that take the parts in order. A bay's rules: some part is in, then for each pair that one of the two is out.
+/// A book of bays that take the parts in order.
+/// A bay's rules: some part is in, then for each pair that one of the two is out.
 #[derive(Drop)]
 pub struct BayBook {
     n: usize,
     rules: usize,
     widths: Vec<u16>,
-    ghost fit: { fit_bays widths.items ≡ true },
-    ghost counted: { (n ≡ total widths.items) × (rules ≡ rule_count widths.items) },
+    ghost fit: { IsTrue (has_bay_book widths.items) },
+    ghost counted: { (n ≡ sum widths.items) × (rules ≡ rule_count widths.items) },
 }
 
 impl BayBook {
-    // A book of bays of 1 to 20 parts each, and at most 120 together.
+    ghost use Rattle.bays.specs.Makes.{widths_of, book_of_bays};
+
+    /// A book of bays of these widths. In every full choice that meets its rules, exactly one part
+    /// of each bay is in, and every such choice meets them.
+    /// Refused with 10, and the widths come back, where there are none, one is 0 or above 20,
+    /// or they sum above 120.
     #[tactic(auto, using(crate::proofs::Walks::hold_one))]
     pub fn new(widths: Vec<u16>) -> Result<BayBook, Refused<Vec<u16>>>
-        ensures { MatchResult result (λ b. (fit_bays widths.items ≡ true) × (b.widths ≡ widths) × HoldOne widths.items) (λ e. (fit_bays widths.items ≡ false) × (e ≡ record { refusal = NotABook; back = widths })) }
+        ensures made { MatchResult result
+            (λ _. IsTrue (has_bay_book widths.items))
+            (λ _. IsFalse (has_bay_book widths.items)) }
+        ensures value { MatchResult result
+            (λ b. (book_of_bays b ≡ bay_book widths.items) × (widths_of b ≡ widths))
+            (λ e. e ≡ record { refusal = NotABook; back = widths }) }
+        ensures law { HoldOne widths.items }
     {
         let Some((n, rules)) = counts(&widths) else {
             return Err(Refused {
@@ -43,9 +54,9 @@ impl BayBook {
         Ok(BayBook { n, rules, widths })
     }
 
-    // The widths, as they were.
+    /// The widths, as they were given.
     pub fn into_widths(self) -> Vec<u16>
-        ensures { result ≡ self.widths }
+        ensures { result ≡ widths_of self }
     {
         self.widths
     }
@@ -77,9 +88,12 @@ impl BayBook {
     }
 }
 
-// Each answer is a walk over the bays.
+/// Each answer is a walk over the bays.
 impl Book for BayBook {
-    ghost meaning = { λ b. bay_book b.widths.items };
+    ghost use Rattle.bays.specs.Makes.{book_of_bays};
+    ghost use Rattle.bays.specs.Proved.{bay_sound};
+
+    ghost meaning = { book_of_bays };
 
     ghost sound = { λ b. bay_sound b.widths.items b.fit };
 
@@ -87,12 +101,12 @@ impl Book for BayBook {
         self.n
     }
 
-    #[tactic(auto, using(crate::specs::Fit::length_bays))]
+    #[tactic(auto, using(crate::specs::Proved::length_bays))]
     fn rules(&self) -> usize {
         self.rules
     }
 
-    #[tactic(auto, using(crate::proofs::Walks::made, crate::proofs::Walks::two_at))]
+    #[tactic(auto, using(crate::proofs::Walks::mapped, crate::proofs::Walks::two_at))]
     fn marks(&self, rule: usize) -> Option<usize> {
         match self.spot(rule)? {
             Spot::SomeIn(bay) => Some(bay.width),
@@ -108,10 +122,12 @@ impl Book for BayBook {
     }
 }
 
-// How many parts and rules the bays have together; nothing where their widths make no book.
-#[tactic(auto, using(std::proofs::lemmas::Grind::common_steps, crate::specs::Fit::pairs_few))]
+// How many parts and rules the bays have together; nothing where there is no book of them.
+#[tactic(auto, using(std::proofs::lemmas::Grind::common_steps, crate::specs::Proved::pairs_few))]
 fn counts(widths: &[u16]) -> Option<(usize, usize)>
-    ensures { result ≡ (if fit_bays widths.now then Some (total widths.now, rule_count widths.now) else None) }
+    ensures { result ≡ (if has_bay_book widths.now
+        then Some (sum widths.now, rule_count widths.now)
+        else None) }
 {
     if widths.is_empty() {
         return None;

@@ -1,6 +1,7 @@
-// Bays, the pairs of their parts, and where a rule stands.
+//! Bays, the pairs of their parts, and where a rule stands.
 ghost use Rattle.std.specs.Prelude.{◌≡◌, ◌+◌, ◌≤◌};
 ghost use Rattle.std.specs.List.{slice_get};
+ghost use Rattle.parts.specs.declared.limits.TheConstants.{MOST_PARTS, MOST_WIDTH};
 ghost use Rattle.std.specs.Option.{option_map};
 ghost use Rattle.parts.specs.Lists.{at_place};
 ghost use Rattle.bays.specs.Meaning.{some_in, not_both, pairs, bay_count};
@@ -12,7 +13,7 @@ use parts::{Mark, Side};
 pub struct Bay {
     pub from: usize,
     pub width: usize,
-    ghost within: { (1 ≤ width) × (width ≤ 20) × (from + width ≤ 121) },
+    ghost in_range: { (1 ≤ width) × (width ≤ MOST_WIDTH) × (from + width ≤ MOST_PARTS + 1) },
 }
 
 // Two parts of a bay, the lower one first.
@@ -22,7 +23,8 @@ pub struct Pair {
     pub high: usize,
 }
 
-// A rule of a bay: that some part is in, or that one part of a pair is out. A pair goes by its number among the bay's, from 0.
+// A rule of a bay: that some part is in, or that one part of a pair is out.
+// A pair is given by its number among the bay's, from 0.
 #[derive(Clone, Copy)]
 pub enum Spot {
     SomeIn(Bay),
@@ -39,7 +41,7 @@ impl Bay {
     }
 
     // A mark of the rule that some part of the bay is in.
-    #[tactic(auto, using(crate::proofs::Walks::made))]
+    #[tactic(auto, using(crate::proofs::Walks::mapped))]
     pub fn some_in(self, place: usize) -> Option<Mark>
         ensures { result ≡ at_place (some_in self.from self.width) place }
     {
@@ -55,10 +57,12 @@ impl Bay {
     // The two parts of a pair, by its number among the bay's pairs, from 0.
     #[tactic(auto, using(std::proofs::lemmas::Bool::Decides::nat_tests, crate::proofs::Walks::pair_turn))]
     pub fn pair_at(self, number: usize) -> Option<Pair>
-        ensures { option_map (λ p. not_both p.low p.high) result ≡ slice_get (pairs self.from self.width) number }
+        ensures { option_map (λ p. not_both p.low p.high) result
+            ≡ slice_get (pairs self.from self.width) number }
     {
         let end = self.from + self.width;
-        // Stays a number that is counted down: each part has fewer pairs than the one before, so no one step serves for all.
+        // Stays a number that is counted down:
+        // each part has fewer pairs than the one before, so no one step serves for all.
         let mut left = number;
         for low in self.from..end {
             let later = end - low - 1;

@@ -1,14 +1,12 @@
-// Bays, alone and joined, asked through the one trait.
+//! Bays, alone and joined, asked through the one trait.
 use crate::BayBook;
-use book::Book;
-use book::joined::join;
-use parts::refusals::Refusal;
-use parts::{Mark, Side};
+use book::{Book, Joined};
+use parts::{Mark, Refusal, Side};
 use std::process::Abort;
 use std::test::Fail;
 
 // The part's mark on a side.
-fn put(part: usize, side: Side) -> Option<Mark> {
+fn mark(part: usize, side: Side) -> Option<Mark> {
     Some(Mark { part, side })
 }
 
@@ -17,10 +15,10 @@ fn two_bays<B: Book>(rt: &impl Abort, book: &B, from: usize) {
     assert!(rt; from < 1000);
     assert_eq!(rt; book.n(), 3);
     assert_eq!(rt; book.marks(from), Some(2));
-    assert_eq!(rt; book.mark(from, 2), put(2, Side::In));
-    assert_eq!(rt; book.mark(from + 1, 1), put(1, Side::Out));
-    assert_eq!(rt; book.mark(from + 1, 2), put(2, Side::Out));
-    assert_eq!(rt; book.mark(from + 2, 1), put(3, Side::In));
+    assert_eq!(rt; book.mark(from, 2), mark(2, Side::In));
+    assert_eq!(rt; book.mark(from + 1, 1), mark(1, Side::Out));
+    assert_eq!(rt; book.mark(from + 1, 2), mark(2, Side::Out));
+    assert_eq!(rt; book.mark(from + 2, 1), mark(3, Side::In));
     assert_eq!(rt; book.mark(from + 2, 2), None);
 }
 
@@ -36,11 +34,11 @@ fn bays(widths: Vec<u16>) -> Result<BayBook, Fail> {
 fn bays_answer(rt: HostRuntime) -> Result<(), Fail> {
     let book = bays([2, 1].to_vec(rt.alloc())?)?;
     two_bays(&rt, &book, 1);
-    let Ok(joined) = join(book, bays([2, 1].to_vec(rt.alloc())?)?) else {
+    let Ok(joined) = Joined::new(book, bays([2, 1].to_vec(rt.alloc())?)?) else {
         return Err(Fail::new("as many parts"));
     };
     two_bays(&rt, &joined, 4);
-    let Ok(nested) = join(joined, bays([2, 1].to_vec(rt.alloc())?)?) else {
+    let Ok(nested) = Joined::new(joined, bays([2, 1].to_vec(rt.alloc())?)?) else {
         return Err(Fail::new("a joined book again"));
     };
     assert_eq!(rt; nested.rules(), 9);
@@ -53,13 +51,13 @@ fn bays_refuse(rt: HostRuntime) -> Result<(), Fail> {
         return Err(Fail::new("21 parts in a bay"));
     };
     assert_eq!(rt; unbuilt.refusal, Refusal::NotABook);
-    let Err(unjoined) = join(
+    let Err(unjoined) = Joined::new(
         bays([3].to_vec(rt.alloc())?)?,
         bays([4].to_vec(rt.alloc())?)?,
     ) else {
         return Err(Fail::new("3 parts and 4"));
     };
     assert_eq!(rt; unjoined.refusal, Refusal::JoinPartsDiffer);
-    assert_eq!(rt; unjoined.back.1.mark(7, 1), put(3, Side::Out));
+    assert_eq!(rt; unjoined.back.1.mark(7, 1), mark(3, Side::Out));
     Ok(())
 }

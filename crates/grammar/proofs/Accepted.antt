@@ -3,19 +3,21 @@ use Rattle.std.proofs.Common.{◌≡◌, ℕ, ◌≤◌, List, [], ◌∷◌, So
 use Rattle.std.proofs.lemmas.Slice.Eq.{bytes_eq-Decides}
 use Rattle.std.proofs.lemmas.Bool.Decides.{nat_tests}
 use Rattle.grammar.specs.declared.Size.{Size}
-use Rattle.grammar.specs.Numbers.{number}
-use Rattle.grammar.specs.Pieces.{Piece, lines, counted}
-use Rattle.grammar.specs.Reading.{sized, head_of, rules_of, book_of, from_head, read_of}
-use Rattle.grammar.proofs.Lines.{bytes_of, lines_are, lines_of, lines_inline}
-use Rattle.grammar.proofs.Numbers.{number_decimal, decimal_number}
+use Rattle.text.specs.Numbers.{number}
+use Rattle.text.specs.Pieces.{Piece, lines}
+use Rattle.grammar.specs.Reading.{counted, size_of, head_of, rules_of, book_of, from_head, read_of}
+use Rattle.text.proofs.LineLaws.{bytes_of, lines_are, lines_of, lines_inline}
+use Rattle.text.proofs.NumberLaws.{number_decimal, decimal_number}
 use Rattle.std.specs.List.{AllByRecursion}
-use Rattle.parts.specs.declared.refusals.Fault.{Fault}
-use Rattle.book.specs.Meaning.{Rules}
+use Rattle.parts.specs.declared.fault.Fault.{Fault}
+use Rattle.parts.specs.declared.limits.TheConstants.{MOST_PARTS, MOST_TEXT_RULES}
+use Rattle.book.specs.Meaning.{RuleBook}
 use Rattle.grammar.specs.declared.Room.{Room}
 use Rattle.grammar.specs.Law.{ReadingIsTheFormat}
-use Rattle.grammar.specs.Format.{Inline, Layout}
+use Rattle.text.specs.Layout.{Inline}
+use Rattle.grammar.specs.Format.{Layout}
 use Rattle.grammar.specs.Format.Layout.{skips, begins}
-use Rattle.grammar.proofs.Fields.{counted_skipped, counted_are, counted_of}
+use Rattle.grammar.proofs.Counted.{counted_skipped, counted_are, counted_of}
 use Rattle.grammar.proofs.RuleLines.{Given, rules_from, rules_to}
 
 -- A line is a head of a book's size exactly if its fields are p, cnf, and the numbers of parts and of rules.
@@ -26,10 +28,10 @@ head_words n m = codes "p" ∷ codes "cnf" ∷ decimal n ∷ decimal m ∷ []
 pub record Heads (size : Size) (fs : List Piece) : Type 0 where
   pub words : bytes_of fs ≡ head_words size.n size.m
   pub some : 1 ≤ size.n
-  pub few : size.n ≤ 120
-  pub rules_few : size.m ≤ 4000
+  pub few : size.n ≤ MOST_PARTS
+  pub rules_few : size.m ≤ MOST_TEXT_RULES
 
-size_to : (from a b : ℕ) (x y : Option ℕ) (size : Size) → sized from a b x y ≡ Ok size → (x ≡ Some size.n) × (y ≡ Some size.m) × (1 ≤ size.n) × (size.n ≤ 120) × (size.m ≤ 4000)
+size_to : (from a b : ℕ) (x y : Option ℕ) (size : Size) → size_of from a b x y ≡ Ok size → (x ≡ Some size.n) × (y ≡ Some size.m) × (1 ≤ size.n) × (size.n ≤ MOST_PARTS) × (size.m ≤ MOST_TEXT_RULES)
 size_to from a b x y size e = grind (arith, nat_tests)
 
 -- the fields of a head give its size
@@ -53,39 +55,39 @@ abbrev pub room_of : ℕ → ℕ → ℕ → Room
 room_of marks ends n = record { n = n; marks = marks; ends = ends }
 
 -- what a book keeps that is read for tables of so many entries
-pub record Fits (marks ends : ℕ) (b : Rules) : Type 0 where
+pub record Fits (marks ends : ℕ) (b : RuleBook) : Type 0 where
   pub some : 1 ≤ b.n
-  pub few : b.n ≤ 120
-  pub rules_few : length b.rules ≤ 4000
+  pub few : b.n ≤ MOST_PARTS
+  pub rules_few : length b.rules ≤ MOST_TEXT_RULES
   pub given : Given (room_of marks ends b.n) (length b.rules) 0 0 b.rules
 
 module _ (marks ends end : ℕ) where
-  -- what the lines after the head read as, by the size that it tells
-  abbrev pub from_size : List Piece → Result Size Fault → Result Rules Fault
+  -- what the lines after the head read as, by the size that it says
+  abbrev pub from_size : List Piece → Result Size Fault → Result RuleBook Fault
   from_size ls (Err e) = Err e
   from_size ls (Ok size) = book_of size.n (rules_of (room_of marks ends size.n) end size.m 0 0 ls)
 
-  abbrev from_line : Piece → List Piece → List Piece → Result Rules Fault
+  abbrev from_line : Piece → List Piece → List Piece → Result RuleBook Fault
   from_line l ls [] = from_head marks ends end ls
   from_line l ls (f ∷ fs) = from_size ls (head_of l.at (f ∷ fs))
 
   -- lines that the format allows for a book give it
-  pub head_lines : (ps : List Piece) (b : Rules) → Fits marks ends b → Layout b.n b.rules (bytes_of ps) → from_head marks ends end ps ≡ Ok b
+  pub head_lines : (ps : List Piece) (b : RuleBook) → Fits marks ends b → Layout b.n b.rules (bytes_of ps) → from_head marks ends end ps ≡ Ok b
   head_lines [] b f h = elim h [ ]
-  head_lines (l ∷ ls) b f (skips s h) = grind (arith, counted_skipped l.bytes s, head_lines ls b f h)
+  head_lines (l ∷ ls) b f (skips s h) = grind (arith, counted_skipped l.at l.bytes s, head_lines ls b f h)
   head_lines (l ∷ ls) b f (begins hd h) =
       let size : Size = record { n = b.n; m = length b.rules } in
-      let words = counted_are (codes "p") _ l.bytes (λ e. omega arith) hd in
-      let head = head_from l.at size (counted l.bytes) (record { words = words; some = f.some; few = f.few; rules_few = f.rules_few }) in
+      let words = counted_are l.at (codes "p") _ l.bytes (λ e. omega arith) hd in
+      let head = head_from l.at size (counted l) (record { words = words; some = f.some; few = f.few; rules_few = f.rules_few }) in
       grind (arith, rules_from (room_of marks ends b.n) end (length b.rules) ls b.rules 0 0 (omega arith) f.given h)
 
   -- a line of lines that were read was passed over, or was the head of m rules
-  abbrev HeadStep : Piece → List Piece → List Piece → Rules → Type 0
+  abbrev HeadStep : Piece → List Piece → List Piece → RuleBook → Type 0
   HeadStep l ls fs b =
       ((fs ≡ []) × (from_head marks ends end ls ≡ Ok b))
       ⊎ ((m : ℕ) × Heads (record { n = b.n; m = m }) fs × (rules_of (room_of marks ends b.n) end m 0 0 ls ≡ Ok b.rules))
 
-  head_step : (l : Piece) (ls fs : List Piece) (b : Rules) → from_line l ls fs ≡ Ok b → HeadStep l ls fs b
+  head_step : (l : Piece) (ls fs : List Piece) (b : RuleBook) → from_line l ls fs ≡ Ok b → HeadStep l ls fs b
   head_step l ls [] b e = inl (refl, e)
   head_step l ls (f ∷ fs) b e = by (head_of l.at (f ∷ fs)) refl e
     where
@@ -94,11 +96,11 @@ module _ (marks ends end : ℕ) where
       by (Ok size) q h = inr (size.m, head_to l.at _ (f ∷ fs) (grind arith), grind arith)
 
   -- and no others do
-  pub lines_head : (ps : List Piece) (b : Rules) → AllByRecursion (AllByRecursion Inline) (bytes_of ps) → from_head marks ends end ps ≡ Ok b → Fits marks ends b × Layout b.n b.rules (bytes_of ps)
+  pub lines_head : (ps : List Piece) (b : RuleBook) → AllByRecursion (AllByRecursion Inline) (bytes_of ps) → from_head marks ends end ps ≡ Ok b → Fits marks ends b × Layout b.n b.rules (bytes_of ps)
   lines_head [] b inline e = cc
   lines_head (l ∷ ls) b inline e =
-      let counts = counted_of l.bytes inline.0 in
-      elim (head_step l ls (counted l.bytes) b e) [
+      let counts = counted_of l.at l.bytes inline.0 in
+      elim (head_step l ls (counted l) b e) [
         | inl k ↦
             let (f, h) = lines_head ls b inline.1 k.1 in
             (f, skips (rw k.0 at counts) h)

@@ -3,26 +3,29 @@ use Rattle.std.proofs.Common.{◌≡◌, ℕ, ◌<◌, ◌≤◌, true, false, L
 use Rattle.std.specs.Int.{IsInRange as Within}
 use Rattle.std.specs.List.{flat_map, AllByRecursion}
 use Rattle.std.proofs.lemmas.Fmt.{decimal_nonempty}
-use Rattle.std.proofs.ByRecursion.{All-append, All-weaker}
 use Rattle.std.proofs.lemmas.List.{append-nil, append_assoc}
 use Rattle.std.proofs.lemmas.Bool.Decides.{nat_tests}
-use Rattle.parts.specs.declared.Side.{Side}
-use Rattle.parts.specs.declared.Side.TheVariants.{In, Out}
-use Rattle.book.specs.Meaning.{Rule, Rules, Sound, sound_rule, sound_rules}
+use Rattle.parts.specs.declared.side.Side.{Side}
+use Rattle.parts.specs.declared.side.Side.TheVariants.{In, Out}
+use Rattle.parts.specs.declared.limits.TheConstants.{MOST_TEXT_RULES}
+use Rattle.book.specs.Meaning.{Rule, RuleBook, Sound, sound_rule, sound_rules}
 use Rattle.grammar.specs.Law.{WritingReadsBack}
-use Rattle.grammar.specs.Writing.{mark_text, mark_field, rule_line, text_of, too_large, written_of}
-use Rattle.grammar.specs.Format.{Blank, Inline, Field, Fields, Rest, Lines, Format}
+use Rattle.grammar.specs.Writing.{mark_text, mark_field, rule_line, text_of, is_too_large, written_of}
+use Rattle.text.specs.Layout.{Blank, Inline, Field, Fields, Lines}
+use Rattle.text.proofs.Each.{each_append, each_weaker}
+use Rattle.grammar.specs.Format.{Rest, Format}
 use Rattle.grammar.specs.Format.Rest.{ends, reads}
 use Rattle.grammar.specs.Format.Layout.{begins}
-use Rattle.grammar.proofs.Fields.{fields_after}
-use Rattle.grammar.proofs.Numbers.{decimal_digits, sound_parts}
+use Rattle.text.proofs.FieldLaws.{fields_after}
+use Rattle.text.proofs.NumberLaws.{decimal_digits}
+use Rattle.grammar.proofs.Marks.{sound_parts}
 use Rattle.grammar.proofs.RuleLines.{rule_words}
 use Rattle.grammar.proofs.Accepted.{head_words, reading_is_the_format}
 
 -- a line has its blanks and its fields alone
 pub fields_inline : (ws : List (List ℕ)) (line : List ℕ) → Fields ws line → AllByRecursion Inline line
-fields_inline [] line h = All-weaker Blank Inline (λ b k e. omega arith) line h
-fields_inline (w ∷ ws) line h = grind (arith, All-append Inline h.0 (w ++ h.1), All-weaker Blank Inline (λ b k e. omega arith) h.0 h.3, All-append Inline w h.1, All-weaker _ Inline (λ b k. k.1) w h.4.1, fields_inline ws h.1 h.6)
+fields_inline [] line h = each_weaker Blank Inline (λ b k e. omega arith) line h
+fields_inline (w ∷ ws) line h = grind (arith, each_append Inline h.0 (w ++ h.1), each_weaker Blank Inline (λ b k e. omega arith) h.0 h.3, each_append Inline w h.1, each_weaker _ Inline (λ b k. k.1) w h.4.1, fields_inline ws h.1 h.6)
 
 -- a field and a space before the others, and the last field
 spaced : (w : List ℕ) (ws : List (List ℕ)) (rest : List ℕ) → Field w → Fields ws rest → Fields (w ∷ ws) (w ++ 32 ∷ rest)
@@ -33,10 +36,10 @@ alone w f = ([], [], sym (append-nil w), tt, f, tt, tt)
 
 -- a field of bytes above the space
 visible : (w : List ℕ) → 0 < length w → AllByRecursion (λ b. 32 < b) w → Field w
-visible w some h = (λ e. omega (arith, ap length e), All-weaker (λ b. 32 < b) _ (λ b k. (λ e. omega arith, λ e. omega arith)) w h)
+visible w some h = (λ e. omega (arith, ap length e), each_weaker (λ b. 32 < b) _ (λ b k. (λ e. omega arith, λ e. omega arith)) w h)
 
 decimal_visible : (v : ℕ) → v < 100000 → AllByRecursion (λ b. 32 < b) (decimal v)
-decimal_visible v h = All-weaker (Within 48 57) (λ b. 32 < b) (λ b d. omega arith) (decimal v) (decimal_digits v h)
+decimal_visible v h = each_weaker (Within 48 57) (λ b. 32 < b) (λ b d. omega arith) (decimal v) (decimal_digits v h)
 
 decimal_field : (v : ℕ) → v < 100000 → Field (decimal v)
 decimal_field v h = visible (decimal v) (decimal_nonempty v (omega arith)) (decimal_visible v h)
@@ -73,11 +76,11 @@ rules_lines n (r ∷ rs) few h =
     ((fields_inline (rule_words r) (rule_body r) body, inl (flat_map rule_line rs, simp append_assoc, ls)), reads body rest)
 
 -- What is written of a book is a text that the format allows for it.
-pub text_format : (buffer : ℕ) (b : Rules) → Sound b → too_large buffer b ≡ false → Format b (text_of b)
+pub text_format : (buffer : ℕ) (b : RuleBook) → Sound b → is_too_large buffer b ≡ false → Format b (text_of b)
 text_format buffer b sound h =
     let few : b.n < 100000 = omega (arith, sound.few) in
     let m = length b.rules in
-    let rules_few : m ≤ 4000 = grind (arith, nat_tests) in
+    let rules_few : m ≤ MOST_TEXT_RULES = grind (arith, nat_tests) in
     let body = head_body b.n m in
     let head = head_fields b.n m few (omega arith) in
     let (ls, rest) = rules_lines b.n b.rules few sound.rules_sound in

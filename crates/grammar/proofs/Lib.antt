@@ -1,6 +1,5 @@
-pub mod Lines
-pub mod Fields
-pub mod Numbers
+pub mod Counted
+pub mod Marks
 pub mod RuleLines
 pub mod Accepted
 pub mod Back

@@ -1,5 +1,3 @@
-pub mod Pieces
-pub mod Numbers
 pub mod Reading
 pub mod Writing
 pub mod Format

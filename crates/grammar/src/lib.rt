@@ -1,17 +1,19 @@
-// The text of a book by definition, its format as a grammar, and the laws that tie them. The definitions are in specs/.
+//! The text of a book by definition, its format as a grammar, and the laws that tie them.
+//! The definitions are in specs/.
 #![tactic(auto)]
 
 ghost use Rattle.std.specs.Prelude.{◌≡◌};
 ghost use Rattle.grammar.specs.Law.{ReadingIsTheFormat, WritingReadsBack};
 
-// How large a book is: its parts and its rules, as its head tells them.
+/// How large a book is: its parts and its rules, as its head says.
 #[derive(Clone, Copy, Debug, PartialEq, Eq)]
 pub struct Size {
     pub n: usize,
     pub m: usize,
 }
 
-// What a reading has room for: n parts, and so many entries in the table of marks and in the table of rule ends.
+/// What a reading has room for: n parts, and so many entries in the table of marks and in the table
+/// of rule ends.
 #[derive(Clone, Copy, Debug)]
 pub struct Room {
     pub n: usize,
@@ -19,16 +21,16 @@ pub struct Room {
     pub ends: usize,
 }
 
-// Where a rule line stands: its rule's number, how many marks the rules before it have, its first byte and its end.
+/// What is known where the line of a rule starts: the rule's number, how many marks the rules
+/// before it have, and where its line ends.
 #[derive(Clone, Copy, Debug)]
-pub struct Place {
+pub struct RuleStart {
     pub rule: usize,
     pub used: usize,
-    pub from: usize,
-    pub to: usize,
+    pub end: usize,
 }
 
-// The laws of reading and writing: see specs/Law.antt. It tells how many they are.
+/// The laws of reading and writing: see specs/Law.antt. It returns how many they are.
 #[tactic(auto, using(crate::proofs::Accepted::reading_is_the_format, crate::proofs::Back::writing_reads_back))]
 pub fn laws_stand() -> usize
     ensures count { result ≡ 2 }

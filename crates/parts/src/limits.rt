@@ -1,4 +1,5 @@
 //! How large books, texts, shelves, budgets and sheets may be. Clauses cite these constants too.
+ghost use Rattle.std.specs.Prelude.{◌≡◌};
 
 /// The most parts of a book, a picker or a shelf.
 pub const MOST_PARTS: usize = 120;
@@ -35,3 +36,16 @@ pub const MOST_SHEET_BYTES: usize = 8000;
 
 /// The most bytes of a part's name.
 pub const MOST_NAME_BYTES: usize = 24;
+
+/// The limits by number: a wrong constant is refused here, since clauses cite the constants.
+/// Returns how many there are.
+pub fn limits_stand() -> usize
+    ensures count { result ≡ 12 }
+    ensures parts { (MOST_PARTS ≡ 120) × (MOST_WIDTH ≡ 20) }
+    ensures rules { (MOST_RULES ≡ 20000) × (MOST_TEXT_RULES ≡ 4000) × (MOST_TEXT_MARKS ≡ 16000) }
+    ensures bytes { (MOST_TEXT_BYTES ≡ 60000) × (MOST_SHEET_BYTES ≡ 8000) × (MOST_NAME_BYTES ≡ 24) }
+    ensures places { (MOST_PLACES ≡ 4096) × (MOST_TABLE_PLACES ≡ 256) }
+    ensures steps { (MOST_BUDGET ≡ 1000000) × (MOST_STEPS ≡ 50000000) }
+{
+    12
+}

@@ -1,5 +1,4 @@
-pub mod Runs
 pub mod Counting
 pub mod RuleSteps
-pub mod Replied
+pub mod ReadLaws
 pub mod FillSteps

@@ -1,9 +1,9 @@
-pub mod Pieces
+pub mod Counted
 pub mod Sizes
 pub mod Checks
 pub mod Heads
 pub mod Rests
 pub mod Named
 pub mod Fills
-pub mod Replies
+pub mod Reads
 pub mod Loads

@@ -1,82 +1,81 @@
-// The first pass of a reading: it judges the text field by field, and touches no table.
+//! The first pass of a reading: it judges the text field by field, and touches no table.
 ghost use Rattle.std.specs.Prelude.{◌≡◌, ◌+◌, ◌<◌, ◌≤◌, true, [], length, slice_set, Err, IfOk, MatchResult};
+ghost use Rattle.parts.specs.declared.limits.TheConstants.{MOST_PARTS, MOST_TEXT_MARKS};
+ghost use Rattle.reading.specs.declared.checking.TheConstants.{MOST_FLAGS};
+ghost use Rattle.text.specs.Numbers.{signed as signed_in};
+ghost use Rattle.text.specs.Views.{piece_of, fields_left};
 ghost use Rattle.book.specs.Meaning.{Rule};
-ghost use Rattle.grammar.specs.Numbers.{signed as signed_in};
-ghost use Rattle.grammar.specs.Pieces.{counted};
-ghost use Rattle.grammar.specs.Reading.{full, field_at, closed, rule_of, rules_of};
-ghost use Rattle.reading.specs.Checks.{count_of, passed};
+ghost use Rattle.grammar.specs.Reading.{counted, is_table_full, number_or_fault, ended_rule, rule_of, rules_of};
+ghost use Rattle.reading.specs.Checks.{count_or_fault, done_or_fault};
 
-use crate::fault;
+use crate::counted::{CountedLines, counted_fields};
 use crate::head::Head;
-use crate::numbers::signed;
-use crate::pieces::{Fields, Lines, Piece};
-use grammar::{Place, Room};
-use parts::limits::MOST_TEXT_MARKS;
-use parts::refusals::{Fault, Refusal};
+use grammar::{Room, RuleStart};
+use parts::limits::{MOST_PARTS, MOST_TEXT_MARKS};
+use parts::{Fault, Refusal};
+use text::{Fields, Piece, signed};
 
-// A rule while its line is read: the room that the tables have, where its line stands, which parts it has named so
-// far, and how many marks that is.
-// Stays a table by part, with which a text of 124 long rules takes 2.3 ms, as ever: with a search in the list of its marks it took 3.4.
+// A flag for each part, and for the 0 that ends a rule.
+pub(crate) const MOST_FLAGS: usize = MOST_PARTS + 1;
+
+// A rule while its line is read: the room that the tables have, what is known where its line
+// starts, which parts it has named so far, and how many marks that is.
+// Stays a table by part, with which a text of 124 long rules takes 2.3 ms, as ever: with a search
+// in the list of its marks it took 3.4.
 #[derive(Drop)]
 pub(crate) struct OpenRule {
     room: Room,
-    place: Place,
-    named: [bool; 121],
+    start: RuleStart,
+    named: [bool; MOST_FLAGS],
     count: usize,
-    ghost few: { room.n ≤ 120 },
-    ghost from: { place.from ≤ 60000 },
-    ghost fits: { place.used + count ≤ 16000 },
-    ghost long: { length named ≡ 121 },
+    ghost few: { room.n ≤ MOST_PARTS },
+    ghost fits: { start.used + count ≤ MOST_TEXT_MARKS },
+    ghost long: { length named ≡ MOST_FLAGS },
 }
 
 impl OpenRule {
-    ghost use Rattle.reading.specs.Pieces.{fields_left};
-    ghost use Rattle.reading.specs.Named.{Shows};
+    ghost use Rattle.reading.specs.Named.{HasNamed};
 
-    // Whether a field finds no entry left: a rule's first field in the table of ends, a mark in the table of marks.
-    fn is_full(&self, number: i32) -> bool
-        ensures { (marks : Rule) → Shows self.now marks → result ≡ full self.now.room self.now.place marks number }
+    // Whether a field finds no entry left: a rule's first field in the table of ends, a mark in the
+    // table of marks.
+    fn is_table_full(&self, number: i32) -> bool
+        ensures { (marks : Rule) → HasNamed self.now marks →
+            result ≡ is_table_full self.now.room self.now.start marks number }
     {
-        if self.count == 0 && self.place.rule > self.room.ends {
+        if self.count == 0 && self.start.rule > self.room.ends {
             return true;
         }
-        number != 0 && self.place.used + self.count >= self.room.marks.min(MOST_TEXT_MARKS)
-    }
-
-    // The refusal of this rule at a byte.
-    fn fault(&self, refusal: Refusal, byte: usize) -> Fault
-        ensures { result ≡ record { refusal = refusal; byte = byte; rule = self.now.place.rule } }
-    {
-        fault(refusal, byte, self.place.rule)
+        number != 0 && self.start.used + self.count >= self.room.marks.min(MOST_TEXT_MARKS)
     }
 
     // The number of the rule's next field, or the first fault that applies to it.
     fn check_field(&self, field: Piece<'_>) -> Result<i32, Fault>
-        ensures { (marks : Rule) → Shows self.now marks → result ≡ field_at self.now.room self.now.place marks (self.now.place.from + field.entry.at) (signed_in field.entry.bytes.now) }
+        ensures { (marks : Rule) → HasNamed self.now marks → result ≡ number_or_fault
+            self.now.room self.now.start marks field.entry.at (signed_in field.entry.bytes.now) }
     {
-        let byte = self.place.from + field.at;
+        let byte = field.at;
         let Some(number) = signed(field.bytes) else {
-            return Err(self.fault(Refusal::MalformedRule, byte));
+            return Err(Fault::new(Refusal::MalformedRule, byte, self.start.rule));
         };
         let part = number.unsigned_abs() as usize;
         if part > self.room.n {
-            return Err(self.fault(Refusal::PartAboveN, byte));
+            return Err(Fault::new(Refusal::PartAboveN, byte, self.start.rule));
         }
         if self.named[part] {
-            return Err(self.fault(Refusal::PartNamedTwice, byte));
+            return Err(Fault::new(Refusal::PartNamedTwice, byte, self.start.rule));
         }
-        if self.is_full(number) {
-            return Err(self.fault(Refusal::TableFull, byte));
+        if self.is_table_full(number) {
+            return Err(Fault::new(Refusal::TableFull, byte, self.start.rule));
         }
         Ok(number)
     }
 
     // One part more, which the rule may name.
     fn add(&mut self, part: usize)
-        requires { (part ≤ 120) × (self.old.place.used + self.old.count < 16000) }
+        requires { (part ≤ MOST_PARTS) × (self.old.start.used + self.old.count < MOST_TEXT_MARKS) }
         ensures named { self.new.named ≡ slice_set self.old.named part true }
         ensures count { self.new.count ≡ self.old.count + 1 }
-        ensures same { (self.new.room ≡ self.old.room) × (self.new.place ≡ self.old.place) }
+        ensures same { (self.new.room ≡ self.old.room) × (self.new.start ≡ self.old.start) }
     {
         self.named[part] = true;
         self.count += 1;
@@ -84,35 +83,31 @@ impl OpenRule {
 
     // How many marks the rule has; nothing may follow its 0 on the line.
     fn close(&self, after: Fields<'_>) -> Result<usize, Fault>
-        ensures { (marks : Rule) → Shows self.now marks → result ≡ count_of (closed self.now.place marks (fields_left after.entry)) }
+        ensures { (marks : Rule) → HasNamed self.now marks →
+            result ≡ count_or_fault (ended_rule self.now.start marks (fields_left after.entry)) }
     {
         let mut left = after;
         match left.next() {
             None => Ok(self.count),
-            Some(field) => Err(self.fault(Refusal::MalformedRule, self.place.from + field.at)),
+            Some(field) => Err(Fault::new(Refusal::MalformedRule, field.at, self.start.rule)),
         }
     }
 }
 
-// How many marks the rule on the line has, or its first fault; `used` is how many the rules before it have.
-fn check_rule(line: Piece<'_>, room: Room, rule: usize, used: usize) -> Result<usize, Fault>
-    requires { (room.n ≤ 120) × (used ≤ 16000) }
-    ensures value { result ≡ count_of (rule_of room (record { rule = rule; used = used; from = line.entry.at; to = line.entry.at + length line.entry.bytes.now }) [] (counted line.entry.bytes.now)) }
-    ensures few { IfOk result (λ count. used + count ≤ 16000) }
+// How many marks the rule on the line has, or its first fault.
+fn check_rule(line: Piece<'_>, room: Room, start: RuleStart) -> Result<usize, Fault>
+    requires { (room.n ≤ MOST_PARTS) × (start.used ≤ MOST_TEXT_MARKS) }
+    ensures value { result ≡ count_or_fault
+        (rule_of room start [] (counted (piece_of line.entry))) }
+    ensures few { IfOk result (λ count. start.used + count ≤ MOST_TEXT_MARKS) }
 {
-    let to = line.at + line.bytes.len();
     let mut open = OpenRule {
         room,
-        place: Place {
-            rule,
-            used,
-            from: line.at,
-            to,
-        },
-        named: [false; 121],
+        start,
+        named: [false; MOST_FLAGS],
         count: 0,
     };
-    let mut fields = line.fields();
+    let mut fields = counted_fields(line);
     while let Some(field) = fields.next() {
         let number = open.check_field(field)?;
         if number == 0 {
@@ -120,34 +115,43 @@ fn check_rule(line: Piece<'_>, room: Room, rule: usize, used: usize) -> Result<u
         }
         open.add(number.unsigned_abs() as usize);
     }
-    Err(open.fault(Refusal::MalformedRule, to))
+    Err(Fault::new(Refusal::MalformedRule, start.end, start.rule))
 }
 
 impl<'a> Head<'a> {
-    ghost use Rattle.reading.specs.Pieces.{lines_left, text_end};
+    ghost use Rattle.reading.specs.Counted.{lines_left, text_end};
     ghost use Rattle.reading.specs.Rests.{Leaves};
 
-    // Judges a line for each rule, and tells the lines after them.
-    fn check_lines(&self, room: Room) -> Result<Lines<'a>, Fault>
-        requires { room.n ≤ 120 }
-        ensures { MatchResult result (Leaves self.now room) (λ e. Err e ≡ passed (rules_of room (text_end self.now.rules) self.now.size.m 0 0 (lines_left self.now.rules))) }
+    // Judges a line for each rule, and returns the lines after them.
+    fn check_lines(&self, room: Room) -> Result<CountedLines<'a>, Fault>
+        requires { room.n ≤ MOST_PARTS }
+        ensures { MatchResult result (Leaves self.now room) (λ e. Err e ≡ done_or_fault (rules_of
+            room (text_end self.now.rules) self.now.size.m 0 0 (lines_left self.now.rules))) }
     {
-        // Stays a for: the lines that are left go along with the total, and are what is told.
+        // Stays a for: the lines that are left go along with the total, and are what is returned.
         let mut lines = self.rules;
         let mut used = 0;
         for done in 0..self.size.m {
             let rule = done + 1;
             let Some(line) = lines.next() else {
-                return Err(fault(Refusal::RuleCount, self.rules.end(), rule));
+                return Err(Fault::new(Refusal::RuleCount, self.rules.end(), rule));
             };
-            used += check_rule(line, room, rule, used)?;
+            let start = RuleStart {
+                rule,
+                used,
+                end: line.end(),
+            };
+            used += check_rule(line, room, start)?;
         }
         Ok(lines)
     }
 
-    // Judges the lines after the head, for tables of so many marks and ends: a line for each rule, and nothing more that counts.
+    // Judges the lines after the head, for tables of so many marks and ends: a line for each rule,
+    // and nothing more that counts.
     pub(crate) fn check_rules(&self, marks: usize, ends: usize) -> Result<(), Fault>
-        ensures { result ≡ passed (rules_of (record { n = self.now.size.n; marks = marks; ends = ends }) (text_end self.now.rules) self.now.size.m 0 0 (lines_left self.now.rules)) }
+        ensures { result ≡ done_or_fault (rules_of
+            (record { n = self.now.size.n; marks = marks; ends = ends })
+            (text_end self.now.rules) self.now.size.m 0 0 (lines_left self.now.rules)) }
     {
         let room = Room {
             n: self.size.n,
@@ -155,13 +159,12 @@ impl<'a> Head<'a> {
             ends,
         };
         let mut after = self.check_lines(room)?;
-        match after.next() {
+        let Some(line) = after.next() else {
+            return Ok(());
+        };
+        match counted_fields(line).next() {
             None => Ok(()),
-            Some(line) => Err(fault(
-                Refusal::RuleCount,
-                line.at + line.fields().at,
-                self.size.m + 1,
-            )),
+            Some(field) => Err(Fault::new(Refusal::RuleCount, field.at, self.size.m + 1)),
         }
     }
 }

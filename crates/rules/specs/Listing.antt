@@ -1,6 +1,7 @@
--- Lists of rules over n parts, where some may be missing; a book's rules and a shelf's lessons as such lists.
-use Rattle.std.specs.Prelude.{ℕ, Bool, true, IsTrue, List, map, length, Some, None, Option, slice_index_or}
+-- Rules over n parts by their numbers from 1, some of which may be missing.
+use Rattle.std.specs.Prelude.{ℕ, ◌≤◌, Bool, true, IsTrue, List, map, length, Some, None, Option, slice_index_or}
 use Rattle.std.specs.Option.{option_flatten, option_map, option_and_then}
+use Rattle.parts.specs.declared.limits.TheConstants.{MOST_PARTS}
 use Rattle.parts.specs.declared.mark.Mark.{Mark}
 use Rattle.parts.specs.Distinct.{is_distinct}
 use Rattle.parts.specs.Lists.{at_place}
@@ -12,15 +13,18 @@ pub record Listed : Type 0 where
   pub n : ℕ
   pub rules : List (Option Rule)
 
--- a rule that is there names parts from 1 to n, none twice
+-- a rule that is there names parts from 1 to n, and none twice
 abbrev pub sound_if_there : ℕ → Option Rule → Bool
 sound_if_there n None = true
 sound_if_there n (Some r) = is_distinct n r
 
+-- what every list of rules keeps
 pub record SoundList (l : Listed) : Type 0 where
+  pub few : l.n ≤ MOST_PARTS
   pub sound : (i : ℕ) → IsTrue (sound_if_there l.n (slice_index_or l.rules i None))
 
--- a rule by its number from 1, how many marks it has, and one of them by its place from 1
+-- a rule by its number, how many marks it has, and one of them by its place;
+-- nothing where it is missing, or outside
 abbrev pub rule_in : List (Option Rule) → ℕ → Option Rule
 rule_in rs i = option_flatten (at_place rs i)
 
@@ -30,6 +34,7 @@ marks_in rs i = option_map length (rule_in rs i)
 abbrev pub mark_in : List (Option Rule) → ℕ → ℕ → Option Mark
 mark_in rs i k = option_and_then (λ r. at_place r k) (rule_in rs i)
 
+-- a book's rules, and a shelf's lessons by their places, where an empty place is a missing rule
 abbrev pub book_list : RuleBook → Listed
 book_list b = record { n = b.n; rules = map Some b.rules }
 

@@ -1,4 +1,5 @@
-//! The rules of a book as a list.
+//! A book's rules as a list of rules.
+ghost use Rattle.std.specs.Prelude.{map};
 ghost use Rattle.rules.specs.Listing.{book_list};
 ghost use Rattle.rules.specs.Proved.{book_list_sound};
 
@@ -7,7 +8,8 @@ use book::Book;
 use parts::Mark;
 
 /// A book's rules; none is missing.
-// Stays beside the shelf's: a type could be both a book and a shelf, so each of the two lists needs a type of its own.
+// Stays beside the shelf's: a type could be both a book and a shelf,
+// so each of the two lists needs a type of its own.
 #[derive(Clone, Copy)]
 pub struct BookRules<'a, B>(pub &'a B);
 

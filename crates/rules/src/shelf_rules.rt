@@ -1,4 +1,5 @@
-//! The lessons of a shelf as a list of rules.
+//! A shelf's lessons as a list of rules.
+ghost use Rattle.std.specs.Prelude.{map};
 ghost use Rattle.rules.specs.Listing.{shelf_list};
 ghost use Rattle.rules.specs.Proved.{shelf_list_sound};
 

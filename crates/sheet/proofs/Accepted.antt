@@ -1,33 +1,41 @@
 -- A bench sheet is accepted with these names and holds exactly if it is their one text.
 use Rattle.std.proofs.Common.{◌≡◌, ℕ, ◌+◌, ◌≤◌, ◌<◌, false, List, [], ◌∷◌, ◌++◌, length, Some, Ok, Err, Option, Result, ap, arith, true, ◌≢◌, decimal, flat_map, inl, inr, append-nil, append_assoc, length-append}
+use Rattle.std.proofs.lemmas.Grind.{common_steps}
+use Rattle.std.proofs.lemmas.List.{nil_from_length}
 use Rattle.std.proofs.lemmas.Bool.{and_from}
 use Rattle.std.proofs.lemmas.Bool.Decides.{nat_tests}
-use Rattle.parts.specs.declared.refusals.Fault.{Fault}
-use Rattle.book.specs.Meaning.{names as names_part, Rule, sound_rule}
-use Rattle.grammar.specs.Pieces.{Piece, lines}
-use Rattle.grammar.proofs.Lines.{lines_feed, lines_last, lines_of}
-use Rattle.sheet.specs.Reading.{Said, Line, line_at, added, said_by, said_on, is_name, sheet_of}
+use Rattle.parts.specs.declared.fault.Fault.{Fault}
+use Rattle.parts.specs.Distinct.{names as names_part, is_distinct}
+use Rattle.parts.proofs.DistinctLaws.{is_distinct_push}
+use Rattle.parts.specs.declared.mark.Mark.{Mark}
+use Rattle.text.specs.Pieces.{Piece, lines}
+use Rattle.text.proofs.LineLaws.{lines_feed, lines_last, lines_of}
+use Rattle.sheet.specs.Reading.{Said, nothing_said, Line, line_at, added, said_by, said_on, is_name, sheet_of}
 use Rattle.sheet.specs.Reading.Line.{part, hold}
 use Rattle.sheet.proofs.LineOf.{Says, says_line, line_says, says_inline, part_ends, hold_ends, part_length, part_words, hold_words, hold_length}
 use Rattle.std.specs.List.{list_all}
-use Rattle.grammar.specs.Format.{Lines}
-use Rattle.grammar.proofs.Numbers.{sound_push, sound_mark}
+use Rattle.text.specs.Layout.{Lines}
 use Rattle.sheet.specs.Format.{part_line, hold_line, part_lines, placed}
 use Rattle.sheet.specs.Law.{ReadingIsTheSheet}
 
 -- What is read of a sheet's lines is what their text stands for.
 -- A sheet's lines read one by one: the line that comes first, and what it adds.
+-- what distinct marks say of one of them
+distinct_mark : (n : ℕ) (before : List Mark) (m : Mark) (after : List Mark) → is_distinct n (before ++ m ∷ after) ≡ true → (1 ≤ m.part) × (m.part ≤ n) × (names_part before m.part ≡ false)
+distinct_mark n [] m after h = grind (arith, nat_tests)
+distinct_mark n (s ∷ before) m after h = grind (arith, common_steps, distinct_mark n before m after)
+
 -- what a line adds to what was said
 abbrev pub Adds : ℕ → Said → Line → Said → Type 0
-Adds n s (part k name) t = (k ≡ length s.names + 1) × (k ≤ n) × (s.holds ≡ []) × (t ≡ record { names = s.names ++ name ∷ []; holds = s.holds })
-Adds n s (hold m) t = (1 ≤ m.part) × (m.part ≤ n) × (names_part s.holds m.part ≡ false) × (t ≡ record { names = s.names; holds = s.holds ++ m ∷ [] })
+Adds n s (part k name) t = (k ≡ length s.names + 1) × (k ≤ n) × (s.holds ≡ []) × (t ≡ record s { names = s.names ++ name ∷ [] })
+Adds n s (hold m) t = (1 ≤ m.part) × (m.part ≤ n) × (names_part s.holds m.part ≡ false) × (t ≡ record s { holds = s.holds ++ m ∷ [] })
 
 -- it is added exactly if it may be
 adds_added : (n at : ℕ) (s t : Said) (l : Line) → Adds n s l t → added n at s l ≡ Ok t
 adds_added n at s t l h = grind (arith, nat_tests)
 
 added_adds : (n at : ℕ) (s t : Said) (l : Line) → added n at s l ≡ Ok t → Adds n s l t
-added_adds n at s t l h = grind (arith, nat_tests)
+added_adds n at s t l h = grind (arith, nat_tests, nil_from_length s.holds)
 
 -- how reading goes on after a line
 abbrev going : ℕ → ℕ → List Piece → Result Said Fault → Result Said Fault
@@ -52,19 +60,19 @@ line_said n end p s u bytes ls h =
     let (l, t, line, add, more) = step n end p s u (line_at end (record { at = p; bytes = bytes })) ls h in
     (l, t, grind (arith, nat_tests), grind (arith, nat_tests, line_says p bytes l), added_adds n p s t l add, more)
 
--- what the rest of a sheet told, from p on and after what was said before
-pub record Told (n p : ℕ) (s t : Said) (text : List ℕ) (names : List (List ℕ)) (holds : Rule) : Type 0 where
+-- what the rest of a sheet says, from p on and after what was said before
+pub record SaysRest (n p : ℕ) (s t : Said) (text : List ℕ) (names : List (List ℕ)) (holds : List Mark) : Type 0 where
   pub named : t.names ≡ s.names ++ placed p (length s.names + 1) names
   pub held : t.holds ≡ s.holds ++ holds
   pub is_text : text ≡ part_lines (length s.names + 1) names ++ flat_map hold_line holds
   pub each : length s.names + length names ≡ n
   pub names_are : list_all is_name names ≡ true
-  pub sound : sound_rule n s.holds ≡ true → sound_rule n t.holds ≡ true
+  pub sound : is_distinct n s.holds ≡ true → is_distinct n t.holds ≡ true
   pub first : s.holds ≢ [] → names ≡ []
 
 module _ (n : ℕ) where
   abbrev Rest : ℕ → Said → Said → List ℕ → Type 0
-  Rest p s t text = (names : List (List ℕ)) × (holds : Rule) × Told n p s t text names holds
+  Rest p s t text = (names : List (List ℕ)) × (holds : List Mark) × SaysRest n p s t text names holds
 
   -- at the end of the sheet nothing is left
   rest_none : (p : ℕ) (s : Said) → length s.names ≡ n → Rest p s s []
@@ -88,9 +96,9 @@ module _ (n : ℕ) where
         ),
       )
   rest_step p s u t (hold m) bytes rest says adds (names, holds, r) =
-      ([], m ∷ holds, grind (arith, length-append s.holds (m ∷ []), append_assoc s.holds (m ∷ []) holds, hold_ends m rest, sound_push n s.holds m))
+      ([], m ∷ holds, grind (arith, length-append s.holds (m ∷ []), append_assoc s.holds (m ∷ []) holds, hold_ends m rest, is_distinct_push n s.holds m))
 
-  -- lines that were read tell a rest: the last of them was ended
+  -- lines that were read say a rest: the last of them was ended
   pub rest_of : (end : ℕ) (ls : List (List ℕ)) (p : ℕ) (s t : Said) (text : List ℕ) → Lines ls text → end ≡ p + length text → said_on n end s (lines p text) ≡ Ok t → Rest p s t text
   rest_of end [] p s t text i e h =
       let same : (s ≡ t) × (length s.names ≡ n) = grind (arith, nat_tests) in
@@ -108,19 +116,19 @@ module _ (n : ℕ) where
 -- The text of names and holds that the format allows is read as these.
 module _ (n end : ℕ) where
   -- the lines of holds are read as these
-  pub holds_on : (hs : Rule) (p : ℕ) (s : Said) → n < 100000 → length s.names ≡ n → sound_rule n (s.holds ++ hs) ≡ true → end ≡ p + length (flat_map hold_line hs)
+  pub holds_on : (hs : List Mark) (p : ℕ) (s : Said) → n < 100000 → length s.names ≡ n → is_distinct n (s.holds ++ hs) ≡ true → end ≡ p + length (flat_map hold_line hs)
       → said_on n end s (lines p (flat_map hold_line hs)) ≡ Ok (record { names = s.names; holds = s.holds ++ hs })
   holds_on [] p s few all sound e = grind (arith, nat_tests, append-nil s.holds)
   holds_on (m ∷ hs) p s few all sound e =
-      let t : Said = record { names = s.names; holds = s.holds ++ m ∷ [] } in
+      let t : Said = record s { holds = s.holds ++ m ∷ [] } in
       let q = p + length (hold_line m) in
-      let (lo, hi, new) = sound_mark n s.holds m hs sound in
+      let (lo, hi, new) = distinct_mark n s.holds m hs sound in
       let one = said_line n end p q s t (hold m) (hold_words m) (flat_map hold_line hs) in
       grind (arith, one, hold_ends m (flat_map hold_line hs), hold_length m, length-append (hold_line m) (flat_map hold_line hs), append_assoc s.holds (m ∷ []) hs, holds_on hs q t)
 
   -- and those of names before them
-  pub names_on : (names : List (List ℕ)) (p k : ℕ) (s : Said) (hs : Rule) → n < 100000 → k ≡ length s.names + 1 → length s.names + length names ≡ n → list_all is_name names ≡ true
-      → s.holds ≡ [] → sound_rule n hs ≡ true → end ≡ p + length (part_lines k names ++ flat_map hold_line hs)
+  pub names_on : (names : List (List ℕ)) (p k : ℕ) (s : Said) (hs : List Mark) → n < 100000 → k ≡ length s.names + 1 → length s.names + length names ≡ n → list_all is_name names ≡ true
+      → s.holds ≡ [] → is_distinct n hs ≡ true → end ≡ p + length (part_lines k names ++ flat_map hold_line hs)
       → said_on n end s (lines p (part_lines k names ++ flat_map hold_line hs)) ≡ Ok (record { names = s.names ++ placed p k names; holds = hs })
   names_on [] p k s hs few next all valid empty sound e = grind (arith, holds_on hs p s, append-nil s.names)
   names_on (name ∷ names) p k s hs few next all valid empty sound e =
@@ -141,10 +149,6 @@ module _ (n end : ℕ) where
         names_on names q (k + 1) t hs,
       )
 
--- before the first line
-abbrev none_said : Said
-none_said = record { names = []; holds = [] }
-
 -- each name takes a byte or more
 many : (names : List (List ℕ)) (k : ℕ) → length names ≤ length (part_lines k names)
 many [] k = omega arith
@@ -155,8 +159,8 @@ pub reading_is_the_sheet : ReadingIsTheSheet
 unfolding sheet_of
 reading_is_the_sheet n text = record {
   only = λ s e.
-      let on : said_on n (length text) none_said (lines 0 text) ≡ Ok s = grind (arith, nat_tests) in
-      let r = rest_of n (length text) _ 0 none_said s text (lines_of 0 text) (omega arith) on in
+      let on : said_on n (length text) nothing_said (lines 0 text) ≡ Ok s = grind (arith, nat_tests) in
+      let r = rest_of n (length text) _ 0 nothing_said s text (lines_of 0 text) (omega arith) on in
       (r.0, r.2.named, grind (arith, nat_tests, r.2));
-  each = λ names holds f. grind (arith, nat_tests, f, many names 1, length-append (part_lines 1 names) (flat_map hold_line holds), names_on n (length text) names 0 1 none_said holds);
+  each = λ names holds f. grind (arith, nat_tests, f, many names 1, length-append (part_lines 1 names) (flat_map hold_line holds), names_on n (length text) names 0 1 nothing_said holds);
 }

@@ -5,14 +5,13 @@ use Rattle.std.proofs.lemmas.Grind.{common_steps}
 use Rattle.std.proofs.lemmas.Bool.Decides.{nat_tests}
 use Rattle.std.proofs.lemmas.List.Sums.{split_at_first, passes_at_first}
 use Rattle.std.proofs.Math.Seq.{take-append_seam, drop-append-add}
-use Rattle.sheet.specs.Reading.{cut, Line, is_name, name_byte, side_of_word, part_by, hold_by, line_by, line_of}
+use Rattle.sheet.specs.Reading.{cut, Line, is_name, is_name_byte, side_of_word, part_by, hold_by, line_by, line_of}
 use Rattle.std.proofs.lemmas.Slice.Eq.{bytes_eq-Decides}
-use Rattle.parts.specs.declared.Mark.{Mark}
-use Rattle.parts.specs.declared.Side.{Side}
-use Rattle.parts.specs.declared.Side.TheVariants.{In, Out}
-use Rattle.grammar.specs.Numbers.{number}
-use Rattle.grammar.specs.Format.{Inline}
-use Rattle.grammar.proofs.Numbers.{number_decimal, decimal_number, decimal_digits}
+use Rattle.parts.specs.declared.mark.Mark.{Mark}
+use Rattle.parts.specs.declared.side.Side.{Side}
+use Rattle.text.specs.Numbers.{number}
+use Rattle.text.specs.Layout.{Inline}
+use Rattle.text.proofs.NumberLaws.{number_decimal, decimal_number, decimal_digits}
 use Rattle.sheet.specs.Reading.Line.{part, hold}
 use Rattle.parts.specs.Codes.{side_text}
 use Rattle.sheet.specs.Format.{part_line, hold_line}
@@ -56,7 +55,7 @@ digits_plain : (bs : List ℕ) → AllByRecursion (λ b. (48 ≤ b) × (b ≤ 57
 digits_plain [] h = tt
 digits_plain (b ∷ bs) h = (omega (arith, h.0), digits_plain bs h.1)
 
-name_plain : (bs : List ℕ) → list_all name_byte bs ≡ true → Plain bs
+name_plain : (bs : List ℕ) → list_all is_name_byte bs ≡ true → Plain bs
 name_plain [] h = tt
 name_plain (b ∷ bs) h = (grind (arith, nat_tests), name_plain bs (grind arith))
 
@@ -67,7 +66,7 @@ side_plain s = grind arith
 line_three : (at : ℕ) (a b c : List ℕ) → Plain a → Plain b → line_of at (tabbed a b c) ≡ line_by at (length (tabbed a b c)) a (Some (b, c))
 line_three at a b c ha hb = rw (cut_at a (b ++ 9 ∷ c) ha, line_of, cut_at b c hb)
 
--- a side is told by its word alone
+-- a side is said by its word alone
 side_word : (w : List ℕ) (s : Side) → side_of_word w ≡ Some s → w ≡ side_text s
 side_word w s h = grind (arith, bytes_eq-Decides w (codes "in"), bytes_eq-Decides w (codes "out"))
 

@@ -1,4 +1,5 @@
--- A shelf as a grid of codes: for each place an entry that is 0 where it is empty, and then n codes.
+-- A shelf as a grid of codes: for each place an entry that is 0 where it is empty,
+-- and then n codes.
 use Rattle.std.specs.Prelude.{ℕ, Bool, List, ◌∷◌, drop, Option}
 use Rattle.parts.specs.Rows.{Row}
 use Rattle.shelf.specs.Meaning.{Shelved, sound_place}

@@ -16,7 +16,7 @@ use parts::{Mark, Refusal, Refused};
 pub struct TableShelf<E: Entry> {
     n: usize,
     places: usize,
-    // Stays one table beside its sizes: it is a caller's, and goes back as one.
+    // Stays one table beside its sizes: it is a caller's, and comes back as one.
     table: Vec<E>,
     ghost sized: { Sized n places (vec_len table) },
     ghost kept: { IsTrue (list_all (E.formed n) (blocks (n + 1) places (table.items))) },
@@ -151,7 +151,8 @@ impl<E: Entry> Shelf for TableShelf<E> {
     #[tactic(auto, using(crate::specs::Proved::length_rows, std::proofs::lemmas::Bool::Decides::nat_tests))]
     fn write(&mut self, place: usize, row: &[u8]) -> Result<(), Refusal>
         ensures answer { result ≡ done_or_25 (can_write (table_meaning self.old) place row.now) }
-        ensures after { table_meaning self.new ≡ row_written (table_meaning self.old) place row.now }
+        ensures after { table_meaning self.new
+            ≡ row_written (table_meaning self.old) place row.now }
         ensures entries { (table_of self.new).items ≡ table_written self.old place row.now }
         ensures rest { table_rest self.new ≡ table_rest self.old }
     {

@@ -1,11 +1,9 @@
 -- What a book answers of its rules, counted from 1, by the lists that they are.
-use Rattle.std.proofs.Common.{◌≡◌, ℕ, ◌+◌, ◌<◌, List, [], ◌++◌, length, length-append, get_or, drop, Some, unwrap_or, arith}
-use Rattle.std.specs.List.{flat_map}
-use Rattle.std.proofs.lemmas.Grind.{common_steps}
-use Rattle.std.proofs.lemmas.List.{at_drop_more, append_assoc}
-use Rattle.std.proofs.lemmas.Option.{gets, slice_get-get_or}
-use Rattle.parts.specs.declared.Mark.{Mark}
-use Rattle.parts.specs.declared.Side.TheVariants.{In}
+use Rattle.std.proofs.Common.{◌≡◌, ℕ, ◌+◌, ◌<◌, List, [], length, get_or, drop, Some, unwrap_or, arith}
+use Rattle.std.proofs.lemmas.List.{at_drop_more}
+use Rattle.std.proofs.lemmas.Option.{slice_get-get_or}
+use Rattle.parts.specs.declared.mark.Mark.{Mark}
+use Rattle.parts.specs.declared.side.Side.TheVariants.{In}
 use Rattle.parts.specs.Lists.{at_place}
 use Rattle.book.specs.Meaning.{Rule, marks_of, mark_of, count_marks}
 use Rattle.writing.specs.Put.{rule_at}
@@ -31,16 +29,3 @@ mark_there rs rule before more =
     let none : Mark = record { part = 0; side = In } in
     let there = item_there (rule_at rs rule) before none more in
     (get_or (rule_at rs rule) before none, grind arith, there)
-
--- the texts of a list's items, put on a page one by one: the next is x
-module _ {X : Type 0} (f : X → List ℕ) (xs : List X) (before : ℕ) (x : X) (is : at_place xs (before + 1) ≡ Some x) (page all : List ℕ) (e : page ++ flat_map f (drop before xs) ≡ all) where
-  begins : page ++ (f x ++ flat_map f (drop (before + 1) xs)) ≡ all
-  begins = grind (arith, common_steps, gets, at_drop_more (flat_map f) xs before x)
-
-  -- its text was put on it
-  pub put_one : (after : List ℕ) → after ≡ page ++ f x → after ++ flat_map f (drop (before + 1) xs) ≡ all
-  put_one after p = grind (arith, append_assoc page (f x) (flat_map f (drop (before + 1) xs)), begins)
-
-  -- or found no room
-  pub no_room : (old text : List ℕ) → all ≡ old ++ text → 60000 < length page + length (f x) → 60000 < length old + length text
-  no_room old text a h = grind (arith, begins, length-append page (f x ++ flat_map f (drop (before + 1) xs)), length-append (f x) (flat_map f (drop (before + 1) xs)), length-append old text)

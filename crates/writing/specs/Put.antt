@@ -1,15 +1,11 @@
--- What is put on a page, and when there is no room for it.
-use Rattle.std.specs.Prelude.{◌≡◌, ℕ, ◌+◌, ◌<◌, List, [], ◌∷◌, ◌++◌, length, Result, MatchResult}
+-- The pieces of a book's text that are put on a page.
+use Rattle.std.specs.Prelude.{ℕ, List, [], ◌∷◌, ◌++◌}
 use Rattle.std.specs.List.{flat_map}
 use Rattle.std.specs.Option.{unwrap_or}
-use Rattle.parts.specs.declared.Mark.{Mark}
+use Rattle.parts.specs.declared.mark.Mark.{Mark}
 use Rattle.parts.specs.Lists.{at_place}
 use Rattle.book.specs.Meaning.{Rule}
 use Rattle.grammar.specs.Writing.{mark_field}
-
--- the piece follows what stood on the page, or the page has no room for both
-abbrev pub Puts : {E : Type 0} → List ℕ → List ℕ → List ℕ → Result (Unit {0}) E → Type 0
-Puts piece before after r = MatchResult r (λ _. after ≡ before ++ piece) (λ _. 60000 < length before + length piece)
 
 -- a mark and a space
 abbrev pub spaced_mark : Mark → List ℕ

@@ -1,30 +1,22 @@
-// What is put on a page, piece by piece; a piece that finds no room is an error.
-ghost use Rattle.std.specs.Prelude.{◌≡◌, decimal};
+//! What is put on a page of a book's text, piece by piece; a piece that finds no room is an error.
+ghost use Rattle.text.specs.Page.{Puts};
 ghost use Rattle.grammar.specs.Writing.{rule_line, head_line, text_of};
-ghost use Rattle.writing.specs.Put.{Puts, spaced_mark, marks_text, rule_at};
+ghost use Rattle.writing.specs.Put.{spaced_mark, marks_text, rule_at};
 
 use arrayvec::ArrayString;
 use book::Book;
-use itoa::Buffer;
 use parts::limits::MOST_TEXT_BYTES;
 use parts::{Mark, Side};
 use std::fmt::{self, Write};
+use text::put_number;
 
 // A page that takes the text of a book.
 pub(crate) type Page = ArrayString<MOST_TEXT_BYTES>;
 
-// The number's decimal digits.
-// Stays without write!, as does a mark below: a failure has to mean that there is no room, which write! does not promise.
-fn put_number(page: &mut Page, number: usize) -> fmt::Result
-    ensures { Puts (decimal number) page.old.bytes page.new.bytes result }
-{
-    let mut buffer = Buffer::new();
-    page.write_str(buffer.format(number))
-}
-
 // The mark's part, with a minus before it for out, and a space after it.
+// Stays without write!: a failure has to mean that there is no room, which write! does not promise.
 fn put_mark(page: &mut Page, mark: Mark) -> fmt::Result
-    ensures { Puts (spaced_mark mark) page.old.bytes page.new.bytes result }
+    ensures { Puts MOST_TEXT_BYTES (spaced_mark mark) page.old.bytes page.new.bytes result }
 {
     if let Side::Out = mark.side {
         page.write_str("-")?;
@@ -34,9 +26,12 @@ fn put_mark(page: &mut Page, mark: Mark) -> fmt::Result
 }
 
 // Each mark of a rule.
-// Stays page and book side by side: a struct that lends both would be made for each of three calls, and is no plainer.
+// Stays page and book side by side: a struct that lends both would be made for each of three calls,
+// and is no plainer.
 fn put_marks<B: Book>(page: &mut Page, book: &B, rule: usize) -> fmt::Result
-    ensures { Puts (marks_text (rule_at (B.Book.meaning book.now).rules rule)) page.old.bytes page.new.bytes result }
+    ensures { Puts MOST_TEXT_BYTES
+        (marks_text (rule_at (B.Book.meaning book.now).rules rule))
+        page.old.bytes page.new.bytes result }
 {
     for before in 0..book.marks(rule).unwrap_or(0) {
         if let Some(mark) = book.mark(rule, before + 1) {
@@ -48,7 +43,9 @@ fn put_marks<B: Book>(page: &mut Page, book: &B, rule: usize) -> fmt::Result
 
 // The line of a rule: its marks, then a 0.
 fn put_rule<B: Book>(page: &mut Page, book: &B, rule: usize) -> fmt::Result
-    ensures { Puts (rule_line (rule_at (B.Book.meaning book.now).rules rule)) page.old.bytes page.new.bytes result }
+    ensures { Puts MOST_TEXT_BYTES
+        (rule_line (rule_at (B.Book.meaning book.now).rules rule))
+        page.old.bytes page.new.bytes result }
 {
     put_marks(page, book, rule)?;
     page.write_str("0\n")
@@ -56,7 +53,7 @@ fn put_rule<B: Book>(page: &mut Page, book: &B, rule: usize) -> fmt::Result
 
 // The head: how many parts and rules there are.
 fn put_head(page: &mut Page, n: usize, rules: usize) -> fmt::Result
-    ensures { Puts (head_line n rules) page.old.bytes page.new.bytes result }
+    ensures { Puts MOST_TEXT_BYTES (head_line n rules) page.old.bytes page.new.bytes result }
 {
     page.write_str("p cnf ")?;
     put_number(page, n)?;
@@ -67,7 +64,8 @@ fn put_head(page: &mut Page, n: usize, rules: usize) -> fmt::Result
 
 // The head, and the line of each rule.
 pub(crate) fn put_book<B: Book>(page: &mut Page, book: &B) -> fmt::Result
-    ensures { Puts (text_of (B.Book.meaning book.now)) page.old.bytes page.new.bytes result }
+    ensures { Puts MOST_TEXT_BYTES
+        (text_of (B.Book.meaning book.now)) page.old.bytes page.new.bytes result }
 {
     put_head(page, book.n(), book.rules())?;
     for before in 0..book.rules() {

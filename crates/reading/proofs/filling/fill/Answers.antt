@@ -1,7 +1,9 @@
+use Rattle.parts.specs.declared.limits.TheConstants.{MOST_PARTS, MOST_TEXT_MARKS}
 use Rattle.std.proofs.Common.{◌≡◌, ◌≤◌, true, nat_abs, refl, ◌∙◌, arith, rules}
-use Rattle.std.proofs.ByRecursion.{All-weaker}
+use Rattle.text.proofs.Each.{each_weaker}
 use Rattle.std.proofs.lemmas.List.{set-get_or}
-use Rattle.reading.specs.Pieces.{counts, piece_of, all_lines, lines_left, text_end}
+use Rattle.text.specs.Views.{piece_of}
+use Rattle.reading.specs.Counted.{counts, all_lines, lines_left, text_end}
 use Rattle.reading.proofs.Counting.{head_counts}
 use Rattle.reading.proofs.FillSteps.{room_in, Fills, Takes, fills_none, fills_rule, fills_more, rule_length, marks_room, none_lines, none_ends}
 use Rattle.reading.proofs.filling.fill.Goals as goal
@@ -32,7 +34,7 @@ takes c = fills_rule (fills c) _ (counts_here c)
 pub fill_rule-used-requires-clause-small : goal.fill_rule-used-requires-clause-small
 fill_rule-used-requires-clause-small c =
     let range = c.args.head.range in
-    All-weaker (λ z. nat_abs z ≤ c.args.head.size.n) (λ z. nat_abs z ≤ 120) (λ z h. omega (arith, range.1)) _ (takes (goal.at.fill_rule-used-requires-clause-small c).In-Some).small
+    each_weaker (λ z. nat_abs z ≤ c.args.head.size.n) (λ z. nat_abs z ≤ MOST_PARTS) (λ z h. omega (arith, range.1)) _ (takes (goal.at.fill_rule-used-requires-clause-small c).In-Some).small
 
 pub fill_rule-used-requires-clause-room : goal.fill_rule-used-requires-clause-room
 fill_rule-used-requires-clause-room c = let d = (goal.at.fill_rule-used-requires-clause-room c).In-Some in marks_room (fills d) _ (takes d)
@@ -41,7 +43,7 @@ pub overflow_cast-end : goal.overflow_cast-end
 overflow_cast-end c =
     let d = (goal.at.overflow_cast-end c).In-Some in
     let t = takes d in
-    let few : c.fill_rule-used.result ≤ 16000 = omega (arith, t.few, rule_length (fills d) _ t, c.fill_rule-used.ensures.value) in
+    let few : c.fill_rule-used.result ≤ MOST_TEXT_MARKS = omega (arith, t.few, rule_length (fills d) _ t, c.fill_rule-used.ensures.value) in
     search rules
 
 pub loop-end-preserved : goal.loop-end-preserved

@@ -1,6 +1,6 @@
 use Rattle.std.proofs.Common.{◌≡◌, ◌++◌, length, ap, arith, w16, w32, SFits, to_z, of_z, rules}
 use Rattle.reading.specs.Fills.{stored}
-use Rattle.reading.specs.Pieces.{fields_left}
+use Rattle.text.specs.Views.{fields_left}
 use Rattle.reading.proofs.FillSteps.{front_more}
 use Rattle.reading.proofs.RuleSteps.{zero_bits, cast_same, stored_stop, stored_zero, stored_mark, bits_zero}
 use Rattle.reading.proofs.filling.fill_rule.Goals as goal
