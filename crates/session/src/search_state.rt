@@ -51,7 +51,9 @@ impl<B: Book, P: Picker, S: Shelf> Search<B, P, S> {
     ghost use Rattle.search.specs.Machine.{stands, standing};
     ghost use Rattle.search.specs.Calls.{hold as held, release as let_out, run_for, call, call_reply, run_reply, report, opened, restarted};
     ghost use Rattle.parts.specs.Distinct.{is_part};
-    ghost use Rattle.std.specs.Prelude.{not};
+    ghost use Rattle.std.specs.Prelude.{not, IfSome, length};
+    ghost use Rattle.std.specs.Option.{option_map};
+    ghost use Rattle.session.specs.Rows.{fitting_row, clashing_row};
     ghost use Rattle.session.specs.Inner.{bench_in, state_in, Going, Kept};
 
 
@@ -304,6 +306,30 @@ impl<B: Book, P: Picker, S: Shelf> Search<B, P, S> {
             answer: self.verdict.answer(),
             steps: self.steps,
             turns: self.turns,
+        }
+    }
+
+    // The codes of the choice, where one fits.
+    #[tactic(auto, using(search::proofs::Settled::length_row))]
+    pub(crate) fn fitting_row(&self) -> Option<&[u8]>
+        ensures value { option_map (λ cs. cs.now) result ≡ fitting_row (bench_in self.now) (state_in self.now) }
+        ensures long { IfSome result (λ cs. length cs.now ≡ (bench_in self.now).book.n) }
+    {
+        match self.verdict {
+            Verdict::Fits => Some(self.trail.row()),
+            _ => None,
+        }
+    }
+
+    // The codes of the named holds, where none fits.
+    pub(crate) fn clashing_row(&self) -> Option<&[u8]>
+        ensures value { option_map (λ cs. cs.now) result ≡ clashing_row (state_in self.now) }
+        ensures long { IfSome result (λ cs. length cs.now ≡ (bench_in self.now).book.n) }
+    {
+        let n = self.book.n();
+        match &self.verdict {
+            Verdict::NoneFits(named) => Some(&named[..n]),
+            _ => None,
         }
     }
 

@@ -6,7 +6,6 @@ ghost use Rattle.session.specs.Inner.{bench_in, state_in};
 ghost use Rattle.session.specs.Reaching.{Reached};
 
 use crate::search_state::{Search, check_opening};
-use crate::verdict::Verdict;
 use book::Book;
 use parts::{Holds, Refusal, Refused};
 use picker::Picker;
@@ -42,15 +41,15 @@ impl<B: Book, P: Picker, S: Shelf> Session<B, P, S> {
         ensures opened { Opened book picker shelf forget result }
         ensures assured { IfOk result (λ x. Assured (bench_of x) (state_of x)) }
     {
-        if let Err(refusal) = check_opening(&book, &picker, &shelf, forget) {
-            return Err(Refused {
+        match check_opening(&book, &picker, &shelf, forget) {
+            Ok(()) => Ok(Session {
+                search: Search::new(book, picker, shelf, forget, Holds::empty()),
+            }),
+            Err(refusal) => Err(Refused {
                 refusal,
                 back: (book, picker, shelf),
-            });
+            }),
         }
-        Ok(Session {
-            search: Search::new(book, picker, shelf, forget, Holds::empty()),
-        })
     }
 
     /// Ends the session, and gives back book, picker and shelf with its lessons.
@@ -173,11 +172,7 @@ impl<B: Book, P: Picker, S: Shelf> Session<B, P, S> {
         ensures after { row.new ≡ row_or (choice_row (bench_of self.now).book.n (state_of self.now) (length row.old)) row.old }
         ensures shows { OnOk result (ShowsFit (bench_of self.now).book (state_of self.now).holds row.new) }
     {
-        let codes = match self.search.verdict {
-            Verdict::Fits => Some(self.search.trail.row()),
-            _ => None,
-        };
-        show(codes, self.n(), row)
+        show(self.search.fitting_row(), self.n(), row)
     }
 
     /// Fills a row with the holds that a standing "none fits" names, 0 elsewhere.
@@ -187,12 +182,7 @@ impl<B: Book, P: Picker, S: Shelf> Session<B, P, S> {
         ensures after { row.new ≡ row_or (named_row (bench_of self.now).book.n (state_of self.now) (length row.old)) row.old }
         ensures names { OnOk result (NamesClash (bench_of self.now).book (state_of self.now).holds row.new) }
     {
-        let n = self.n();
-        let codes = match &self.search.verdict {
-            Verdict::NoneFits(named) => Some(&named[..n]),
-            _ => None,
-        };
-        show(codes, n, row)
+        show(self.search.clashing_row(), self.n(), row)
     }
 }
 
