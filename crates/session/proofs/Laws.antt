@@ -1,16 +1,15 @@
 -- What a session keeps, call by call, and what follows from it with no premise.
-use Rattle.std.proofs.Common.{◌≡◌, ℕ, suc, ◌+◌, ◌<◌, ◌≤◌, Bool, true, false, ◌&&◌, eqb, subst, List, [], ◌∷◌, ◌++◌, inl, inr, IfOk, OnOk, Option, Some, None, Ok, Err, cond, sym, refl, ap, ◌∙◌, arith}
+use Rattle.std.proofs.Common.{◌≡◌, ℕ, ◌<◌, Bool, true, false, ◌&&◌, eqb, subst, List, [], ◌∷◌, ◌++◌, IfOk, OnOk, Option, Some, None, Err, cond, sym, refl, ap, ◌∙◌, arith}
 use mathlib.Core.Bool.{Bool-set}
 use mathlib.Core.HLevel.{⊥_prop}
 use Rattle.std.proofs.Math.Logic.{∥∥₁_elim, ∥∥₁_map}
 use Rattle.std.specs.Coded.{le_prop}
-use Rattle.std.specs.List.{All, Contains, list_all, list_any}
-use Rattle.parts.specs.Codes.{is_row}
+use Rattle.std.specs.List.{Contains, list_any}
 use Rattle.parts.specs.declared.mark.Mark.{Mark}
-use Rattle.parts.specs.Rows.{Row, is_full, row_marks, same_side}
+use Rattle.parts.specs.Rows.{Row, row_marks, same_side}
 use Rattle.parts.proofs.Among.{Among, all_among, among_all, contains_among, among_at}
 use Rattle.book.specs.Meaning.{Rule}
-use Rattle.book.specs.Choices.{Choice, Obeys, Keeps, ShowsFit, NamesClash, obeys, keeps, meets, shown}
+use Rattle.book.specs.Choices.{ShowsFit, NamesClash, shown}
 use Rattle.book.proofs.ChoiceLaws.{meets_says, meets_shows, obeys_says, obeys_shows, keeps_says, keeps_shows, any_says, any_shows}
 use Rattle.search.specs.Bounds.{most_steps}
 use Rattle.search.specs.Machine.{Bench, Machine, Verdict, working, fits, none_fits, stands, run}
@@ -128,7 +127,7 @@ opened_bare p s = refl
 not_standing : (v : Verdict) → answer_of v ≡ Spent → stands v ≡ false
 not_standing v e = grind arith
 
-run_accepted : (b : Bench) (m : Machine) (k : ℕ) → refuses b m (run_for k) ≡ None → call b (run_for k) m ≡ run b k m
+pub run_accepted : (b : Bench) (m : Machine) (k : ℕ) → refuses b m (run_for k) ≡ None → call b (run_for k) m ≡ run b k m
 unfolding call accepted
 run_accepted b m k h = grind arith
 

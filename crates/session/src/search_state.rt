@@ -56,10 +56,15 @@ impl<B: Book, P: Picker, S: Shelf> Search<B, P, S> {
     ghost use Rattle.session.specs.Rows.{fitting_row, clashing_row};
     ghost use Rattle.session.specs.Inner.{bench_in, state_in, Going, Kept};
 
-
     // A search that begins under these holds: every place is cleared, nothing is settled, and nothing counted.
     #[tactic(auto, using(std::proofs::lemmas::Bool::Decides::nat_tests, std::proofs::lemmas::Grind::common_steps), unfolding(search::specs::Calls::opened, search::specs::Calls::restarted))]
-    pub(crate) fn new(book: B, picker: P, mut shelf: S, forget: Forgetting, holds: Holds) -> Search<B, P, S>
+    pub(crate) fn new(
+        book: B,
+        picker: P,
+        mut shelf: S,
+        forget: Forgetting,
+        holds: Holds,
+    ) -> Search<B, P, S>
         requires same_picker { (P.meaning picker).n ≡ (B.meaning book).n }
         requires same_shelf { (S.meaning shelf).n ≡ (B.meaning book).n }
         requires held { IsTrue (is_distinct (B.meaning book).n holds) }
@@ -145,10 +150,8 @@ impl<B: Book, P: Picker, S: Shelf> Search<B, P, S> {
     #[tactic(auto, unfolding(search::specs::Machine::asked))]
     fn ask(&mut self)
         requires { Going self.old }
-        ensures after {
-            state_in self.new ≡ asked (state_in self.old)
-            (picked_by (P.meaning self.old.picker) (settled_row self.old.trail.n self.old.trail.entries))
-        }
+        ensures after { state_in self.new ≡ asked (state_in self.old)
+            (picked_by (P.meaning self.old.picker) (settled_row self.old.trail.n self.old.trail.entries)) }
         ensures kept { Kept self.old self.new }
     {
         match self.picker.pick(self.trail.row()) {

@@ -21,14 +21,15 @@ pub struct Session<B: Book, P: Picker, S: Shelf> {
 }
 
 impl<B: Book, P: Picker, S: Shelf> Session<B, P, S> {
-    ghost use Rattle.std.specs.Prelude.{IfOk, OnOk};
+    ghost use Rattle.std.specs.Prelude.{IfOk, OnOk, IsTrue, None};
+    ghost use Rattle.parts.specs.Distinct.{is_distinct};
     ghost use Rattle.book.specs.Choices.{ShowsFit, NamesClash};
     ghost use Rattle.shelf.specs.Meaning.{code_of_place};
     ghost use Rattle.search.specs.Bounds.{most_steps};
     ghost use Rattle.search.specs.Machine.{standing};
-    ghost use Rattle.search.specs.Calls.{hold as held, release as let_out, run_for, call, call_reply, run_reply, settled_code, choice_row, named_row};
+    ghost use Rattle.search.specs.Calls.{hold as held, release as let_out, run_for, call, call_reply, run_reply, opened, refuses_open, restarted, settled_code, choice_row, named_row};
     ghost use Rattle.search.specs.Law.{LessonsFollow};
-    ghost use Rattle.session.specs.View.{book_of, picker_of, shelf_of, bench_of, state_of, Kept, Opened, Assured, SpentBelow, PromisedAfter};
+    ghost use Rattle.session.specs.View.{book_of, picker_of, shelf_of, forget_of, bench_of, state_of, Kept, Opened, Assured, SpentBelow, PromisedAfter};
 
     /// Opens a session: every place is cleared, nothing is held or settled, and nothing counted.
     /// Refused with 15 where the three differ in n, else with 16 where a forgetting number is above 120; then all three come back as they were.
@@ -49,6 +50,24 @@ impl<B: Book, P: Picker, S: Shelf> Session<B, P, S> {
                 refusal,
                 back: (book, picker, shelf),
             }),
+        }
+    }
+
+    // Opens a session under these holds, where that is accepted.
+    pub(crate) fn open_under(
+        book: B,
+        picker: P,
+        shelf: S,
+        forget: Forgetting,
+        holds: Holds,
+    ) -> Session<B, P, S>
+        requires opens { refuses_open (B.meaning book).n (P.meaning picker).n (S.meaning shelf).n forget ≡ None }
+        requires held { IsTrue (is_distinct (B.meaning book).n holds) }
+        ensures state { state_of result ≡ restarted (opened (P.meaning picker) (S.meaning shelf)) holds }
+        ensures kept { (book_of result ≡ book) × (picker_of result ≡ picker) × (forget_of result ≡ forget) }
+    {
+        Session {
+            search: Search::new(book, picker, shelf, forget, holds),
         }
     }
 

@@ -1,4 +1,4 @@
-use Rattle.std.proofs.Common.{◌∙◌, [], IsTrue, refl, arith}
+use Rattle.std.proofs.Common.{[], refl, arith}
 use Rattle.session.proofs.Laws.{assured, opened_bare, opened_fresh, reached_fresh}
 use Rattle.session.proofs.session.Session.open.Goals as goal
 
