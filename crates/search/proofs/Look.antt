@@ -1,5 +1,5 @@
 -- What holds at each of the six cases of a step.
-use Rattle.std.proofs.Common.{◌≡◌, ℕ, suc, ◌≤◌, Bool, true, false, ◌≢◌, ◌⊎◌, List, [], ◌∷◌, map, length, replicate, Some, None, Option, sym, refl, subst, inl, inr, le_trans, arith}
+use Rattle.std.proofs.Common.{◌≡◌, ℕ, suc, ◌≤◌, Bool, true, false, ◌≢◌, ◌⊎◌, List, [], ◌∷◌, map, length, replicate, Some, None, Option, refl, subst, inl, inr, le_trans, arith}
 use Rattle.std.specs.List.{find, range_with_len}
 use Rattle.std.specs.Option.{option_and_then}
 use Rattle.std.proofs.lemmas.Bool.{cases_eq}
@@ -21,7 +21,7 @@ use Rattle.search.specs.declared.reason.Reason.{Reason}
 use Rattle.search.specs.declared.reason.Reason.TheVariants.{Book, Shelf}
 use Rattle.search.specs.Trail.{Trail, settled, row, reason_in, reason_of, truth, says_false, says_open, State, broken, pressing, quiet, enter}
 use Rattle.search.specs.Machine.{Bench, Places, Machine, rule_at, state_of, reasons, is_broken, is_pressing, press_by}
-use Rattle.search.specs.Machine.{Move, turn_on, force, settle, fit, ask, choose, look, turn, marks_at}
+use Rattle.search.specs.Machine.{Move, turn_on, force, settle, fit, ask, choose, look, turn}
 use Rattle.search.proofs.Basics.{twice_opposite, among_range, find_some, find_none, place_within, among_place}
 use Rattle.search.proofs.Rows.{Names, Within, not_names, enter_length, enter_codes, enter_comes, enter_from, empty_row, empty_codes}
 use Rattle.search.proofs.Invariant.{Failed, Ranged, Kept, Why, Sound}
@@ -36,7 +36,7 @@ turn_pass at c e t h = grind arith
 
 module _ (n : ℕ) (Ob : Choice → Type 0) (hs : Rule) (at : Reason → Option Rule) where
   -- a part that is settled against its hold was forced
-  crossed_reason : is_distinct n hs ≡ true → (t : Trail) → Sound n hs at t → (h : Mark) → Among h hs → Failed t h → reason_of t h.part ≢ None
+  pub crossed_reason : is_distinct n hs ≡ true → (t : Trail) → Sound n hs at t → (h : Mark) → Among h hs → Failed t h → reason_of t h.part ≢ None
   unfolding settled reason_of
   crossed_reason dis [] s h i f = grind arith
   crossed_reason dis (e ∷ t) s h i f = grind (arith, distinct_once n hs e.mark h, crossed_reason dis t s.3 h i)
@@ -130,7 +130,7 @@ module _ (b : Bench) (m : Machine) where
 
   -- what holds where a step does this
   abbrev pub Looked : Move → Type 0
-  Looked (turn_on r) = Ends n Ob hs at_of (top n t) (turn at_of (enter (replicate n 0) (marks_at (at_of r))) t)
+  Looked (turn_on r) = (R : Rule) × (at_of r ≡ Some R) × Ends n Ob hs at_of (top n t) (turn at_of (enter (replicate n 0) R) t)
   Looked (force p) =
       (settled t p.mark.part ≡ None)
       × ((1 ≤ p.mark.part) × (p.mark.part ≤ n))
@@ -168,10 +168,6 @@ module _ (b : Bench) (m : Machine) where
         let says : Says t R quiet = grind (arith, state_says n t R range, find_none (λ r. is_broken (st r)) all ea (Book i) here, find_none (λ r. is_pressing (st r)) all ep (Book i) here) in
         says (λ y k. grind (arith, range y k, row_settled n t y.part ev))
 
-    -- what a turn from a rule ends in
-    abbrev EndsFrom : Option Rule → Type 0
-    EndsFrom o = Ends n Ob hs at_of (top n t) (turn at_of (enter (replicate n 0) (marks_at o)) t)
-
     -- a turn on a broken rule
     on_broken : (r : Reason) → st r ≡ broken → Looked (turn_on r)
     unfolding start
@@ -179,10 +175,7 @@ module _ (b : Bench) (m : Machine) where
         let (R, is, says) = at_state n t (at_of r) broken (λ R is. (ok r R is).1) h (λ q. grind arith) in
         let g = ok r R is in
         let fine = start_fine n Ob hs at_of R g (λ y i j. grind (arith, says y i, says (opposite_of y) j)) in
-        subst EndsFrom (sym is)
-        (turn_ok n Ob hs at_of ok (enter (replicate n 0) R) t (top n t) (omega arith) sound
-        (λ y i. inl (says y (start_names n Ob hs at_of R g.1 y i)))
-        fine)
+        (R, is, turn_ok n Ob hs at_of ok (enter (replicate n 0) R) t (top n t) (omega arith) sound (λ y i. inl (says y (start_names n Ob hs at_of R g.1 y i))) fine)
 
     -- a turn on the reason of a part that is settled against its hold
     on_crossed : (r : Reason) (h : Mark) → Among h hs → Failed t h → reason_of t h.part ≡ Some r → Looked (turn_on r)
@@ -191,10 +184,12 @@ module _ (b : Bench) (m : Machine) where
         let x : Mark = opposite_of h in
         let (R, is, others, lone) = reason_facts n Ob hs at_of t sound x r q f in
         let g = ok r R is in
-        let fine = start_fine n Ob hs at_of R g (λ y i j. grind (arith, others y i, others (opposite_of y) j, twice_opposite)) in
-        subst EndsFrom (sym is)
-        (cross_turn n Ob hs at_of ok R (enter (replicate n 0) R) (start_names n Ob hs at_of R g.1) fine r x is
-        (subst (λ z. Among z hs) (twice_opposite h x refl) i) t (top n t) (omega arith) sound q f)
+        let fine = start_fine n Ob hs at_of R g (λ y i j. grind (arith, others y i, others (opposite_of y) j, twice_opposite)) in (
+          R,
+          is,
+          cross_turn n Ob hs at_of ok R (enter (replicate n 0) R) (start_names n Ob hs at_of R g.1) fine r x is
+              (subst (λ z. Among z hs) (twice_opposite h x refl) i) t (top n t) (omega arith) sound q f,
+        )
 
     -- a pressing rule's open mark is forced
     on_pressing : (r : Reason) (s : State) → st r ≡ s → is_pressing s ≡ true → (c : Option Reason) (h : Option Mark) (v : Bool) → Looked (choose None (press_by r s) c h v)
