@@ -3,3 +3,5 @@ pub mod Marks
 pub mod RuleLines
 pub mod Accepted
 pub mod Back
+pub mod RuleFaults
+pub mod RestFaults
