@@ -5,3 +5,4 @@ pub mod Accepted
 pub mod Back
 pub mod RuleFaults
 pub mod RestFaults
+pub mod FirstFaults

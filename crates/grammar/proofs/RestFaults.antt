@@ -149,7 +149,7 @@ zeros_end : (k : ℕ) → EndsLine (zeros k)
 zeros_end zero = tt
 zeros_end (suc k) = refl
 
-zeros_word : (k : ℕ) → EndsWord (zeros k)
+pub zeros_word : (k : ℕ) → EndsWord (zeros k)
 zeros_word zero = tt
 zeros_word (suc k) = inr refl
 
@@ -207,6 +207,12 @@ module _ (n m_entries e_entries m : ℕ) (few : n ≤ MOST_PARTS) (low : m ≤ M
       rw (lines_feed p t (48 ∷ zeros k) i, rules_rule (full_room n) e m done used (piece p t) (lines at (48 ∷ zeros k)) r (omega arith) q)
         (with_ok r _ (line_passes k (done + 1) (used + length r) at (codes "0") one.0 ((λ k. omega arith), tt) (λ e. cc) (omega arith) one.1 e))
 
+  -- so do lines of a 0 each
+  pub zeros_pass : (k done used p : ℕ) → done + 1 + k ≡ m → SomeRules done used p (codes "0" ++ zeros k)
+  zeros_pass k done used p all e =
+      let one = zero_ends n m_entries e_entries (done + 1) used (omega arith) [] p [] tt refl (p + 1) in
+      line_passes k done used p (codes "0") one.0 ((λ k. omega arith), tt) (λ e. cc) all one.1 e
+
   -- and after a line that does not count too
   blank_passes : (k done used p : ℕ) (l : List ℕ) → AllByRecursion Inline l → counted (piece p l) ≡ [] → done + k ≡ m → SomeRules done used p (l ++ zeros k)
   blank_passes zero done used p l i none all e =
@@ -214,9 +220,7 @@ module _ (n m_entries e_entries m : ℕ) (few : n ≤ MOST_PARTS) (low : m ≤ M
       rw (blank_alone (full_room n) e m done used p l i none, last) refl
   blank_passes (suc k) done used p l i none all e =
       let at = p + length l + 1 in
-      let one = zero_ends n m_entries e_entries (done + 1) used (omega arith) [] at [] tt refl (at + 1) in
-      rw (lines_feed p l (48 ∷ zeros k) i, rules_skip (full_room n) e m done used (piece p l) (lines at (48 ∷ zeros k)) none)
-        (line_passes k done used at (codes "0") one.0 ((λ k. omega arith), tt) (λ e. cc) (omega arith) one.1 e)
+      rw (lines_feed p l (48 ∷ zeros k) i, rules_skip (full_room n) e m done used (piece p l) (lines at (48 ∷ zeros k)) none) (zeros_pass k done used at (omega arith) e)
 
   -- a line that counts and has no rule, or is one too many, is refused
   line_err : (done used e : ℕ) (l : Piece) (ls : List Piece) → SomeField (counted l) → (done < m → IsErr (rule_of room (rule_start done used l) [] (counted l))) → IsErr (rules_of room e m done used (l ∷ ls))
