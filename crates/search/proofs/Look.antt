@@ -130,7 +130,7 @@ module _ (b : Bench) (m : Machine) where
 
   -- what holds where a step does this
   abbrev pub Looked : Move → Type 0
-  Looked (turn_on r) = Ends n Ob hs at_of (top n t) (turn at_of (enter (replicate n 0) (marks_at (at_of r))) t)
+  Looked (turn_on r) = (R : Rule) × (at_of r ≡ Some R) × Ends n Ob hs at_of (top n t) (turn at_of (enter (replicate n 0) R) t)
   Looked (force p) =
       (settled t p.mark.part ≡ None)
       × ((1 ≤ p.mark.part) × (p.mark.part ≤ n))
@@ -168,10 +168,6 @@ module _ (b : Bench) (m : Machine) where
         let says : Says t R quiet = grind (arith, state_says n t R range, find_none (λ r. is_broken (st r)) all ea (Book i) here, find_none (λ r. is_pressing (st r)) all ep (Book i) here) in
         says (λ y k. grind (arith, range y k, row_settled n t y.part ev))
 
-    -- what a turn from a rule ends in
-    abbrev EndsFrom : Option Rule → Type 0
-    EndsFrom o = Ends n Ob hs at_of (top n t) (turn at_of (enter (replicate n 0) (marks_at o)) t)
-
     -- a turn on a broken rule
     on_broken : (r : Reason) → st r ≡ broken → Looked (turn_on r)
     unfolding start
@@ -179,10 +175,7 @@ module _ (b : Bench) (m : Machine) where
         let (R, is, says) = at_state n t (at_of r) broken (λ R is. (ok r R is).1) h (λ q. grind arith) in
         let g = ok r R is in
         let fine = start_fine n Ob hs at_of R g (λ y i j. grind (arith, says y i, says (opposite_of y) j)) in
-        subst EndsFrom (sym is)
-        (turn_ok n Ob hs at_of ok (enter (replicate n 0) R) t (top n t) (omega arith) sound
-        (λ y i. inl (says y (start_names n Ob hs at_of R g.1 y i)))
-        fine)
+        (R, is, turn_ok n Ob hs at_of ok (enter (replicate n 0) R) t (top n t) (omega arith) sound (λ y i. inl (says y (start_names n Ob hs at_of R g.1 y i))) fine)
 
     -- a turn on the reason of a part that is settled against its hold
     on_crossed : (r : Reason) (h : Mark) → Among h hs → Failed t h → reason_of t h.part ≡ Some r → Looked (turn_on r)
@@ -192,8 +185,7 @@ module _ (b : Bench) (m : Machine) where
         let (R, is, others, lone) = reason_facts n Ob hs at_of t sound x r q f in
         let g = ok r R is in
         let fine = start_fine n Ob hs at_of R g (λ y i j. grind (arith, others y i, others (opposite_of y) j, twice_opposite)) in
-        subst EndsFrom (sym is)
-        (cross_turn n Ob hs at_of ok R (enter (replicate n 0) R) (start_names n Ob hs at_of R g.1) fine r x is
+        (R, is, cross_turn n Ob hs at_of ok R (enter (replicate n 0) R) (start_names n Ob hs at_of R g.1) fine r x is
         (subst (λ z. Among z hs) (twice_opposite h x refl) i) t (top n t) (omega arith) sound q f)
 
     -- a pressing rule's open mark is forced
