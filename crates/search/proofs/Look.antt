@@ -36,7 +36,7 @@ turn_pass at c e t h = grind arith
 
 module _ (n : ℕ) (Ob : Choice → Type 0) (hs : Rule) (at : Reason → Option Rule) where
   -- a part that is settled against its hold was forced
-  crossed_reason : is_distinct n hs ≡ true → (t : Trail) → Sound n hs at t → (h : Mark) → Among h hs → Failed t h → reason_of t h.part ≢ None
+  pub crossed_reason : is_distinct n hs ≡ true → (t : Trail) → Sound n hs at t → (h : Mark) → Among h hs → Failed t h → reason_of t h.part ≢ None
   unfolding settled reason_of
   crossed_reason dis [] s h i f = grind arith
   crossed_reason dis (e ∷ t) s h i f = grind (arith, distinct_once n hs e.mark h, crossed_reason dis t s.3 h i)
