@@ -4,4 +4,5 @@ pub mod Bounds
 pub mod Calls
 pub mod Law
 pub mod Places
+pub mod Cases
 pub mod Words
