@@ -1,5 +1,5 @@
 -- What holds at each of the six cases of a step.
-use Rattle.std.proofs.Common.{◌≡◌, ℕ, suc, ◌≤◌, Bool, true, false, ◌≢◌, ◌⊎◌, List, [], ◌∷◌, map, length, replicate, Some, None, Option, sym, refl, subst, inl, inr, le_trans, arith}
+use Rattle.std.proofs.Common.{◌≡◌, ℕ, suc, ◌≤◌, Bool, true, false, ◌≢◌, ◌⊎◌, List, [], ◌∷◌, map, length, replicate, Some, None, Option, refl, subst, inl, inr, le_trans, arith}
 use Rattle.std.specs.List.{find, range_with_len}
 use Rattle.std.specs.Option.{option_and_then}
 use Rattle.std.proofs.lemmas.Bool.{cases_eq}
@@ -21,7 +21,7 @@ use Rattle.search.specs.declared.reason.Reason.{Reason}
 use Rattle.search.specs.declared.reason.Reason.TheVariants.{Book, Shelf}
 use Rattle.search.specs.Trail.{Trail, settled, row, reason_in, reason_of, truth, says_false, says_open, State, broken, pressing, quiet, enter}
 use Rattle.search.specs.Machine.{Bench, Places, Machine, rule_at, state_of, reasons, is_broken, is_pressing, press_by}
-use Rattle.search.specs.Machine.{Move, turn_on, force, settle, fit, ask, choose, look, turn, marks_at}
+use Rattle.search.specs.Machine.{Move, turn_on, force, settle, fit, ask, choose, look, turn}
 use Rattle.search.proofs.Basics.{twice_opposite, among_range, find_some, find_none, place_within, among_place}
 use Rattle.search.proofs.Rows.{Names, Within, not_names, enter_length, enter_codes, enter_comes, enter_from, empty_row, empty_codes}
 use Rattle.search.proofs.Invariant.{Failed, Ranged, Kept, Why, Sound}
@@ -184,9 +184,12 @@ module _ (b : Bench) (m : Machine) where
         let x : Mark = opposite_of h in
         let (R, is, others, lone) = reason_facts n Ob hs at_of t sound x r q f in
         let g = ok r R is in
-        let fine = start_fine n Ob hs at_of R g (λ y i j. grind (arith, others y i, others (opposite_of y) j, twice_opposite)) in
-        (R, is, cross_turn n Ob hs at_of ok R (enter (replicate n 0) R) (start_names n Ob hs at_of R g.1) fine r x is
-        (subst (λ z. Among z hs) (twice_opposite h x refl) i) t (top n t) (omega arith) sound q f)
+        let fine = start_fine n Ob hs at_of R g (λ y i j. grind (arith, others y i, others (opposite_of y) j, twice_opposite)) in (
+          R,
+          is,
+          cross_turn n Ob hs at_of ok R (enter (replicate n 0) R) (start_names n Ob hs at_of R g.1) fine r x is
+              (subst (λ z. Among z hs) (twice_opposite h x refl) i) t (top n t) (omega arith) sound q f,
+        )
 
     -- a pressing rule's open mark is forced
     on_pressing : (r : Reason) (s : State) → st r ≡ s → is_pressing s ≡ true → (c : Option Reason) (h : Option Mark) (v : Bool) → Looked (choose None (press_by r s) c h v)
