@@ -9,6 +9,7 @@ use Rattle.std.proofs.lemmas.List.{length-replicate}
 use Rattle.parts.specs.Codes.{is_row, side_of}
 use Rattle.parts.specs.Distinct.{is_distinct, is_part, names}
 use Rattle.parts.specs.Lists.{at_place}
+use Rattle.parts.specs.Marks.{opposite_of}
 use Rattle.parts.specs.Rows.{Row, row_marks}
 use Rattle.parts.specs.declared.mark.Mark.{Mark}
 use Rattle.parts.specs.declared.refusal.Refusal.{Refusal}
@@ -272,8 +273,8 @@ module _ {b : Bench} {m : Machine} (inv : Inv b m) where
 
     turn_whole : (r : Reason) → look b m ≡ turn_on r → (R : Rule) × TurnIsWhole b m r R
     turn_whole r e =
-        let (R, is, ends) : Looked b m (turn_on r) = subst (Looked b m) e looked in
-        (R, record { rule = is; stops = λ x c t q. fits_there x c t (subst (Ends b.book.n (Obeys b.book.rules) m.holds (at_of b m) (top b.book.n m.trail)) q ends) })
+        let (R, is, apart, (ends, kept)) : Looked b m (turn_on r) = subst (Looked b m) e looked in
+        (R, record { rule = is; apart = λ y i j. apart y (contains_among R y i) (contains_among R (opposite_of y) j); marks = kept; stops = λ x c t q. fits_there x c t (subst (Ends b.book.n (Obeys b.book.rules) m.holds (at_of b m) (top b.book.n m.trail)) q ends) })
 
     force_open : (p : Press) → look b m ≡ force p → IsOpenPart b m.trail p.mark.part
     force_open p e = let l : Looked b m (force p) = subst (Looked b m) e looked in record { first = l.1.0; last = l.1.1; vacant = l.0 }
@@ -290,6 +291,7 @@ module _ {b : Bench} {m : Machine} (inv : Inv b m) where
   pub inv_hidden : NothingHidden b m
   inv_hidden = record {
     bottom = bottom_empty;
+    holds = inv.holds;
     reasons = reason_there b.book.n m.holds (at_of b m) m.trail inv.sound;
     crossed = λ h i f.
         some_reason (reason_of m.trail h.part)

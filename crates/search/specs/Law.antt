@@ -1,12 +1,12 @@
 -- What holds after every list of calls.
-use Rattle.std.specs.Prelude.{◌≡◌, ℕ, ◌+◌, ◌≤◌, Bool, true, false, IsTrue, IsFalse, List, [], ◌∷◌, length, replicate, Some, None, Option}
+use Rattle.std.specs.Prelude.{◌≡◌, ℕ, ◌+◌, ◌≤◌, Bool, true, false, IsTrue, IsFalse, ◌&&◌, ◌≢◌, List, [], ◌∷◌, length, replicate, Some, None, Option}
 use Rattle.std.specs.List.{Contains}
 use Rattle.parts.specs.declared.mark.Mark.{Mark}
 use Rattle.parts.specs.declared.refusal.Refusal.{Refusal}
 use Rattle.parts.specs.Distinct.{is_distinct}
 use Rattle.parts.specs.Lists.{at_place}
 use Rattle.parts.specs.Marks.{opposite_of, other_side}
-use Rattle.parts.specs.Rows.{Row}
+use Rattle.parts.specs.Rows.{Row, names_mark}
 use Rattle.book.specs.Choices.{Choice, Meets, Obeys, ShowsFit, NamesClash}
 use Rattle.book.specs.Meaning as books
 use Rattle.book.specs.Meaning.{Rule}
@@ -15,10 +15,11 @@ use Rattle.picker.specs.Meaning.{Picks, picked}
 use Rattle.shelf.specs.Meaning as shelves
 use Rattle.shelf.specs.Meaning.{Shelved, can_write}
 use Rattle.search.specs.Bounds.{most_turns, most_steps}
+use Rattle.search.specs.declared.entry.Kind.TheVariants.{Forced}
 use Rattle.search.specs.declared.reason.Reason.{Reason}
 use Rattle.search.specs.Trail.{Trail, settled, row, reason_of, enter}
 use Rattle.search.specs.Machine.{Bench, Machine, Places, Verdict, working, fits, none_fits, lesson, rule_at, stands}
-use Rattle.search.specs.Machine.{Press, turn_on, force, settle, ask, look, stop, turn, next_place}
+use Rattle.search.specs.Machine.{Press, is_picked, worked, turn_on, force, settle, ask, look, stop, turn, next_place}
 use Rattle.search.specs.Calls.{Call, hold, release, run_for, refuses, call, calls, opened, restarted}
 
 -- What book, picker and shelf mean is sound, and they have one n.
@@ -133,9 +134,27 @@ pub record LessonFits (b : Bench) (m : Machine) (x : Mark) (c : Row) (t : Trail)
 abbrev pub rule_of : Bench → Machine → Reason → Option Rule
 rule_of b m r = rule_at b.book.rules m.shelf.rows r
 
+-- no mark of a rule has its opposite in the working rule, the two marks of a part apart
+abbrev pub Agrees : Row → ℕ → Rule → Type 0
+Agrees c p R =
+    (y : Mark) → Contains R y → y.part ≢ p → IsFalse (names_mark c (opposite_of y))
+
+-- The working rule is a row, on which a mark takes the place of its opposite. On a turn from c over
+-- the trail none is lost so: whatever is resolved, its reason agrees with the working rule.
+unfoldable pub NoMarkLost : (Reason → Option Rule) → Row → Trail → Type 0
+NoMarkLost at c [] = Unit {0}
+NoMarkLost at c (e ∷ t) =
+    let named : Bool = names_mark c (opposite_of e.mark) in
+    ((r : Reason) (R : Rule) → e.kind ≡ Forced r → at r ≡ Some R → IsTrue named
+        → Agrees c e.mark.part R)
+    × (IsFalse (is_picked e.kind && named)
+        → NoMarkLost at (worked named e.kind e.mark.part c at) t)
+
 -- a turn on a rule R
 pub record TurnIsWhole (b : Bench) (m : Machine) (r : Reason) (R : Rule) : Type 0 where
   pub rule : rule_of b m r ≡ Some R
+  pub apart : (y : Mark) → Contains R y → Contains R (opposite_of y) → ⊥
+  pub marks : NoMarkLost (rule_of b m) (enter (replicate b.book.n 0) R) m.trail
   pub stops : (x : Mark) (c : Row) (t : Trail)
       → turn (rule_of b m) (enter (replicate b.book.n 0) R) m.trail ≡ stop x c t
       → (i : ℕ) × LessonFits b m x c t i
@@ -144,6 +163,8 @@ pub record TurnIsWhole (b : Bench) (m : Machine) (r : Reason) (R : Rule) : Type 
 pub record NothingHidden (b : Bench) (m : Machine) : Type 0 where
   -- after "none fits" nothing is settled
   pub bottom : (r : Row) → m.verdict ≡ none_fits r → m.trail ≡ []
+  -- holds are of distinct parts, so that none takes another's place in the row that names them
+  pub holds : IsTrue (is_distinct b.book.n m.holds)
   -- each reason on the trail is a rule that is there
   pub reasons : (p : ℕ) (r : Reason) → reason_of m.trail p ≡ Some r
       → (R : Rule) × (rule_of b m r ≡ Some R)
@@ -153,7 +174,7 @@ pub record NothingHidden (b : Bench) (m : Machine) : Type 0 where
       → (r : Reason) × (reason_of m.trail h.part ≡ Some r)
   -- a picker that is asked has an answer, an open part
   pub ask : m.verdict ≡ working → look b m ≡ ask → (x : Mark) × PickerAnswers b m x
-  -- a turn is on a rule that is there, and its lesson has a place
+  -- a turn is on a rule that is there, no mark is lost on it, and its lesson has a place
   pub turn_on : (r : Reason) → m.verdict ≡ working → look b m ≡ turn_on r
       → (R : Rule) × TurnIsWhole b m r R
   -- a mark that is forced, and a hold that is settled, is of an open part

@@ -22,7 +22,7 @@ pub use report::{Answer, Report};
 /// states are fresh; what a call leaves alone; that no branch of a definition that stands for what
 /// cannot be is ever taken; and which place of the shelf is written, in words (specs/Places.antt).
 /// Returns how many promises it keeps of a state: lessons, verdict, turns, steps, verdict to come.
-#[tactic(auto, using(crate::proofs::Promises::search_keeps_its_promises, crate::proofs::Promises::fresh_starts, crate::proofs::Promises::calls_leave_the_rest, crate::proofs::Promises::nothing_is_hidden, crate::proofs::Places::places_are_next))]
+#[tactic(auto, using(crate::proofs::Promises::search_keeps_its_promises, crate::proofs::Promises::fresh_starts, crate::proofs::Promises::calls_leave_the_rest, crate::proofs::Places::places_are_next))]
 pub fn search_stands() -> usize
     ensures count { result ≡ 5 }
     ensures law { SearchKeepsItsPromises }
