@@ -49,7 +49,7 @@ module _ (n : ℕ) (Ob : Choice → Type 0) (hs : Rule) (at : Reason → Option 
       → Ends n Ob hs at w (turn at c t) × NoMarkLost at c t → Ends n Ob hs at w (turn at c (e ∷ t)) × NoMarkLost at c (e ∷ t)
   unfolding NoMarkLost
   passed w c e t h (ends, kept) =
-      (rw (turn_pass at c e t h) ends, (λ r R k is named. absurd (cc), λ no. pass_keeps at c e t (names_mark c (opposite_of e.mark)) h kept))
+      (rw (turn_pass at c e t h) ends, (λ r k named. absurd (cc), λ no. pass_keeps at c e t (names_mark c (opposite_of e.mark)) h kept))
 
   -- a part that is settled against its hold was forced
   pub crossed_reason : is_distinct n hs ≡ true → (t : Trail) → Sound n hs at t → (h : Mark) → Among h hs → Failed t h → reason_of t h.part ≢ None

@@ -1,5 +1,5 @@
 -- The turn: what the working rule keeps, and what the turn ends in.
-use Rattle.std.proofs.Common.{◌≡◌, ℕ, suc, ◌+◌, ◌-◌, ◌*◌, ◌^◌, ◌<◌, ◌≤◌, Bool, true, false, ◌&&◌, ◌≢◌, ◌⊎◌, [], ◌∷◌, length, is_some, Some, None, Option, sym, refl, inl, inr, le_trans, pow-suc, subst, arith}
+use Rattle.std.proofs.Common.{◌≡◌, ℕ, suc, ◌+◌, ◌-◌, ◌*◌, ◌^◌, ◌<◌, ◌≤◌, Bool, true, false, ◌&&◌, ◌≢◌, ◌⊎◌, [], ◌∷◌, length, is_some, Some, None, Option, sym, refl, inl, inr, le_trans, pow-suc, arith}
 use Rattle.std.proofs.lemmas.Bool.{cases_Bool, cases_eq}
 use Rattle.parts.specs.Codes.{all_codes}
 use Rattle.parts.specs.Marks.{opposite_of}
@@ -135,12 +135,10 @@ module _ (n : ℕ) (Ob : Choice → Type 0) (hs : Rule) (at : Reason → Option 
   agrees x k c t R op others cov y i ne = not_names c (opposite_of y) (λ j. grind (arith, cov (opposite_of y) j, others y (contains_among R y i)))
 
   resolved_agrees : (v : Bool) (k : Kind) (x : Mark) (c : Row) (t : Trail) → settled t x.part ≡ None → Why hs at k x t → Covered (record { mark = x; kind = k } ∷ t) c
-      → (r : Reason) (R : Rule) → k ≡ Forced r → at r ≡ Some R → v ≡ true → Agrees c x.part R
-  resolved_agrees v Held x c t op why cov r R e is h = absurd (cc)
-  resolved_agrees v Picked x c t op why cov r R e is h = absurd (cc)
-  resolved_agrees v (Forced q) x c t op (Q, isQ, own, others) cov r R e is h =
-      let same : Q ≡ R = cc in
-      agrees x (Forced q) c t R op (λ y i. others y (subst (Among y) (sym same) i)) cov
+      → (r : Reason) → k ≡ Forced r → v ≡ true → (R : Rule) × (at r ≡ Some R) × Agrees c x.part R
+  resolved_agrees v Held x c t op why cov r e h = absurd (cc)
+  resolved_agrees v Picked x c t op why cov r e h = absurd (cc)
+  resolved_agrees v (Forced q) x c t op (R, is, own, others) cov r e h = (R, cc, agrees x (Forced q) c t R op others cov)
 
   -- and so the turn ends well, and no mark is lost
   pub turn_ok : ((r : Reason) (R : Rule) → at r ≡ Some R → Good R) → (c : Row) (t : Trail) (w : ℕ) → w ≤ top n t → Sound n hs at t → Covered t c → Fine c

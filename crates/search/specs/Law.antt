@@ -123,14 +123,14 @@ pub record PickerAnswers (b : Bench) (m : Machine) (x : Mark) : Type 0 where
   pub free : IsOpenPart b m.trail x.part
 
 -- A turn has stopped at the pick x with the working rule c, and t is left of the trail: there is a
--- place for the lesson, the shelf takes it there, and the opposite mark is settled by nothing.
+-- place for the lesson, the shelf takes it there, and the part of the opposite mark is open.
 pub record LessonFits (b : Bench) (m : Machine) (x : Mark) (c : Row) (t : Trail) (i : ℕ)
     : Type 0 where
   pub place : next_place m.shelf.rows m.last t ≡ Some i
   pub write : IsTrue (can_write m.shelf i c)
   pub opposite : IsOpenPart b t (opposite_of x).part
 
--- The rule of which a reason speaks is there.
+-- the rule that a reason speaks of
 abbrev pub rule_of : Bench → Machine → Reason → Option Rule
 rule_of b m r = rule_at b.book.rules m.shelf.rows r
 
@@ -140,13 +140,14 @@ Agrees c p R =
     (y : Mark) → Contains R y → y.part ≢ p → IsFalse (names_mark c (opposite_of y))
 
 -- The working rule is a row, on which a mark takes the place of its opposite. On a turn from c over
--- the trail none is lost so: whatever is resolved, its reason agrees with the working rule.
+-- the trail none is lost so: whatever is resolved, its reason is there and agrees with the working
+-- rule.
 unfoldable pub NoMarkLost : (Reason → Option Rule) → Row → Trail → Type 0
 NoMarkLost at c [] = Unit {0}
 NoMarkLost at c (e ∷ t) =
     let named : Bool = names_mark c (opposite_of e.mark) in
-    ((r : Reason) (R : Rule) → e.kind ≡ Forced r → at r ≡ Some R → IsTrue named
-        → Agrees c e.mark.part R)
+    ((r : Reason) → e.kind ≡ Forced r → IsTrue named
+        → (R : Rule) × (at r ≡ Some R) × Agrees c e.mark.part R)
     × (IsFalse (is_picked e.kind && named)
         → NoMarkLost at (worked named e.kind e.mark.part c at) t)
 
@@ -165,6 +166,9 @@ pub record NothingHidden (b : Bench) (m : Machine) : Type 0 where
   pub bottom : (r : Row) → m.verdict ≡ none_fits r → m.trail ≡ []
   -- holds are of distinct parts, so that none takes another's place in the row that names them
   pub holds : IsTrue (is_distinct b.book.n m.holds)
+  -- every rule, of the book or on the shelf, is over the book's parts, and has its place in a row
+  pub parts : (r : Reason) (R : Rule) → rule_of b m r ≡ Some R
+      → (y : Mark) → Contains R y → (1 ≤ y.part) × (y.part ≤ b.book.n)
   -- each reason on the trail is a rule that is there
   pub reasons : (p : ℕ) (r : Reason) → reason_of m.trail p ≡ Some r
       → (R : Rule) × (rule_of b m r ≡ Some R)
