@@ -147,9 +147,9 @@ NoMarkLost at c [] = Unit {0}
 NoMarkLost at c (e ∷ t) =
     let named : Bool = names_mark c (opposite_of e.mark) in
     ((r : Reason) → e.kind ≡ Forced r → IsTrue named
-        → (R : Rule) × (at r ≡ Some R) × Agrees c e.mark.part R)
+    → (R : Rule) × (at r ≡ Some R) × Agrees c e.mark.part R)
     × (IsFalse (is_picked e.kind && named)
-        → NoMarkLost at (worked named e.kind e.mark.part c at) t)
+    → NoMarkLost at (worked named e.kind e.mark.part c at) t)
 
 -- a turn on a rule R
 pub record TurnIsWhole (b : Bench) (m : Machine) (r : Reason) (R : Rule) : Type 0 where
