@@ -166,6 +166,8 @@ pub record NothingHidden (b : Bench) (m : Machine) : Type 0 where
   pub bottom : (r : Row) → m.verdict ≡ none_fits r → m.trail ≡ []
   -- holds are of distinct parts, so that none takes another's place in the row that names them
   pub holds : IsTrue (is_distinct b.book.n m.holds)
+  -- the place last written is one of the shelf's, or 0 where none is
+  pub last : m.last ≤ length m.shelf.rows
   -- every rule, of the book or on the shelf, is over the book's parts, and has its place in a row
   pub parts : (r : Reason) (R : Rule) → rule_of b m r ≡ Some R
       → (y : Mark) → Contains R y → (1 ≤ y.part) × (y.part ≤ b.book.n)
