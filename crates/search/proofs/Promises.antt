@@ -292,6 +292,7 @@ module _ {b : Bench} {m : Machine} (inv : Inv b m) where
   inv_hidden = record {
     bottom = bottom_empty;
     holds = inv.holds;
+    last = inv.last;
     parts = λ r R is y i. (inv.good r R is).1 y (contains_among R y i);
     reasons = reason_there b.book.n m.holds (at_of b m) m.trail inv.sound;
     crossed = λ h i f.

@@ -147,9 +147,9 @@ NoMarkLost at c [] = Unit {0}
 NoMarkLost at c (e ∷ t) =
     let named : Bool = names_mark c (opposite_of e.mark) in
     ((r : Reason) → e.kind ≡ Forced r → IsTrue named
-        → (R : Rule) × (at r ≡ Some R) × Agrees c e.mark.part R)
+    → (R : Rule) × (at r ≡ Some R) × Agrees c e.mark.part R)
     × (IsFalse (is_picked e.kind && named)
-        → NoMarkLost at (worked named e.kind e.mark.part c at) t)
+    → NoMarkLost at (worked named e.kind e.mark.part c at) t)
 
 -- a turn on a rule R
 pub record TurnIsWhole (b : Bench) (m : Machine) (r : Reason) (R : Rule) : Type 0 where
@@ -166,6 +166,8 @@ pub record NothingHidden (b : Bench) (m : Machine) : Type 0 where
   pub bottom : (r : Row) → m.verdict ≡ none_fits r → m.trail ≡ []
   -- holds are of distinct parts, so that none takes another's place in the row that names them
   pub holds : IsTrue (is_distinct b.book.n m.holds)
+  -- the place last written is one of the shelf's, or 0 where none is
+  pub last : m.last ≤ length m.shelf.rows
   -- every rule, of the book or on the shelf, is over the book's parts, and has its place in a row
   pub parts : (r : Reason) (R : Rule) → rule_of b m r ≡ Some R
       → (y : Mark) → Contains R y → (1 ≤ y.part) × (y.part ≤ b.book.n)
