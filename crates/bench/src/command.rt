@@ -36,7 +36,10 @@ impl Command {
         let Ok(line) = str::from_utf8(line) else {
             return Ok(None);
         };
-        let words: Vec<&str> = line.split_ascii_whitespace().collect(heap)?;
+        let words: Vec<&str> = line
+            .split([' ', '\t'])
+            .filter(|word| !word.is_empty())
+            .collect(heap)?;
         Ok(match *words.as_slice() {
             ["open"] => Some(Command::Open),
             ["help"] => Some(Command::Help),

@@ -4,19 +4,22 @@
 mod answering;
 mod command;
 mod desk;
+mod files;
 mod names;
 mod opening;
 mod reply;
 mod setup;
 
 use crate::desk::{Desk, Next};
+use crate::files::first_bytes;
 use crate::names::Names;
 use crate::opening::{Served, open};
-use anyhow::bail;
 use book::TextBook;
+use parts::Fault;
+use parts::limits::{MOST_SHEET_BYTES, MOST_TEXT_BYTES};
 use reading::{LoadError, load};
 use sheet::Sheet;
-use std::fs;
+use std::io;
 
 fn main(rt: HostRuntime) -> anyhow::Result<()> {
     bench(&rt)
@@ -24,27 +27,33 @@ fn main(rt: HostRuntime) -> anyhow::Result<()> {
 
 // Loads the book, or tells where it is refused.
 fn bench(rt: &HostRuntime) -> anyhow::Result<()> {
-    // a file that cannot be read counts as empty
-    let text = fs::read(rt, "book.cnf").unwrap_or_else(|_| Vec::new(rt.alloc()));
+    // a file that cannot be read counts as empty, and one byte past the limit is enough to refuse the text
+    let text = first_bytes(rt, "book.cnf", MOST_TEXT_BYTES as u64 + 1)?
+        .unwrap_or_else(|| Vec::new(rt.alloc()));
     match load(rt.alloc(), &text) {
         Ok(book) => serve_by_sheet(rt, book),
-        Err(LoadError::Faulty(fault)) => Ok(println!(rt; "refused\t{fault}")?),
-        Err(LoadError::NoMemory) => bail!("out of memory"),
+        Err(LoadError::Faulty(fault)) => Ok(say_fault(rt, fault)?),
+        Err(error) => Err(error.into()),
     }
 }
 
 // Serves with the names of the sheet; without names where there is no sheet, or it is refused.
 fn serve_by_sheet(rt: &HostRuntime, book: TextBook) -> anyhow::Result<()> {
-    let Ok(text) = fs::read(rt, "bench.txt") else {
+    let Some(text) = first_bytes(rt, "bench.txt", MOST_SHEET_BYTES as u64 + 1)? else {
         return serve(rt, book, Names::of(&[]));
     };
     match Sheet::read(&text, &book) {
         Ok(sheet) => serve(rt, book, Names::of(sheet.names())),
         Err(fault) => {
-            println!(rt; "refused\t{fault}")?;
+            say_fault(rt, fault)?;
             serve(rt, book, Names::of(&[]))
         }
     }
+}
+
+// Tells where a text is refused.
+fn say_fault(rt: &HostRuntime, fault: Fault) -> io::Result<()> {
+    println!(rt; "refused\t{fault}")
 }
 
 // Serves until the input ends, session after session.

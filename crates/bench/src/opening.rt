@@ -3,11 +3,11 @@ use crate::desk::{Desk, Next};
 use crate::reply::Reply;
 use crate::setup::{PickerMake, ShelfMake};
 use book::{Book, TextBook};
-use parts::limits::MOST_PLACES;
+use parts::limits::MOST_TABLE_PLACES;
 use parts::{Refusal, Refused};
 use picker::{Lowest, Picker, Ranked};
 use session::Session;
-use shelf::{GridShelf, ListShelf, Shelf};
+use shelf::{GridShelf, ListShelf, Shelf, entries};
 
 // The book, as it comes back, and what is to come next.
 #[derive(Drop)]
@@ -39,16 +39,12 @@ where
     requires { F.IsAlwaysCallable new }
 {
     let n = book.n();
-    let table = vec![in desk.heap(); entry; entries(n, places)]?;
+    // too many places are refused over any table
+    let table = vec![in desk.heap(); entry; entries(n, places.min(MOST_TABLE_PLACES))]?;
     match new(n, places, table) {
         Ok(shelf) => open_by(desk, book, shelf),
         Err(refused) => refuse(desk, book, refused.refusal),
     }
-}
-
-// How many entries the table of a shelf has; one of too many places is refused over any.
-fn entries(n: usize, places: usize) -> usize {
-    places.min(MOST_PLACES).saturating_mul(n.saturating_add(1))
 }
 
 // Makes the picker.

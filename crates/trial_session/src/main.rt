@@ -1,4 +1,4 @@
-// trial_session: replays histories on sessions over both shelves, and tells where they disagree. Those of cases.tsv were told by an independent search, and those
+// trial_session: replays histories on sessions over both shelves, and tells where they disagree. Those of cases.tsv and, with shelves that get full, of full.tsv were told by an independent search, and those
 // of hard.tsv, which have many turns and lessons, by tools/tell_histories.
 #![tactic(auto)]
 
@@ -21,6 +21,7 @@ fn main(rt: HostRuntime) -> anyhow::Result<()> {
 
 fn run(rt: &HostRuntime) -> anyhow::Result<()> {
     try_file(rt, "cases.tsv")?;
+    try_file(rt, "full.tsv")?;
     try_file(rt, "hard.tsv")
 }
 

@@ -2,10 +2,11 @@
 use crate::comparing::{Tally, Trial};
 use crate::history::{History, Opening};
 use crate::replay::replay;
-use anyhow::Context;
+use anyhow::anyhow;
 use book::{Tables, TextBook};
+use parts::Refused;
 use picker::{Lowest, Ranked};
-use shelf::{GridShelf, ListShelf, Shelf};
+use shelf::{GridShelf, ListShelf, Shelf, entries};
 use std::alloc::Global;
 
 // What each entry of a shelf's table holds before the shelf is made: no empty place.
@@ -20,38 +21,30 @@ pub fn replay_on_both(rt: &HostRuntime, history: &History) -> anyhow::Result<Tal
 }
 
 // Makes the trial's shelf, over a table of such entries, and replays on it with the history's book and picker.
-fn replay_on<T, S, E, F>(trial: Trial, entry: T, new: F) -> anyhow::Result<Tally>
+fn replay_on<T, S, F>(trial: Trial, entry: T, new: F) -> anyhow::Result<Tally>
 where
     T: Copy,
     S: Shelf + Drop,
-    E: Drop,
-    F: FnOnce(usize, usize, Vec<T>) -> Result<S, E>,
+    F: FnOnce(usize, usize, Vec<T>) -> Result<S, Refused<Vec<T>>>,
     requires { F.IsAlwaysCallable new }
 {
     let heap = trial.rt.alloc();
     let opening = &trial.history.opening;
-    let table = vec![in heap; entry; entries(opening)]?;
+    let table = vec![in heap; entry; entries(opening.parts, opening.places)]?;
     let shelf = new(opening.parts, opening.places, table)
-        .ok()
-        .context(format_args!("no {}", trial.make))?;
+        .map_err(|refused| anyhow!("no {}: {}", trial.make, refused.refusal))?;
     let book = make_book(heap, opening)?;
     match &opening.ranking {
         None => {
-            let picker = Lowest::new(opening.parts).ok().context("no picker")?;
+            let picker = Lowest::new(opening.parts)?;
             replay(trial, book, picker, shelf)
         }
         Some(list) => {
-            let picker = Ranked::new(list.to_vec(heap)?).ok().context("no ranking")?;
+            let picker = Ranked::new(list.to_vec(heap)?)
+                .map_err(|refused| anyhow!("no ranking: {}", refused.refusal))?;
             replay(trial, book, picker, shelf)
         }
     }
-}
-
-// How many entries a shelf's table has.
-fn entries(opening: &Opening) -> usize {
-    opening
-        .places
-        .saturating_mul(opening.parts.saturating_add(1))
 }
 
 fn make_book(heap: Global, opening: &Opening) -> anyhow::Result<TextBook> {
@@ -61,6 +54,5 @@ fn make_book(heap: Global, opening: &Opening) -> anyhow::Result<TextBook> {
         ends: ends.to_vec(heap)?,
     };
     TextBook::new(opening.parts, ends.len(), tables)
-        .ok()
-        .context("no book")
+        .map_err(|refused| anyhow!("no book: {}", refused.refusal))
 }

@@ -2,7 +2,7 @@
 use crate::comparing::{Tally, Trial};
 use crate::history::{Answer, Call, Counts, Reply, START, Unanswered};
 use crate::kept_lessons::{compare_codes, compare_marks};
-use anyhow::Context;
+use anyhow::anyhow;
 use book::Book;
 use parts::Refusal;
 use picker::Picker;
@@ -21,8 +21,7 @@ pub fn replay<B: Book + Drop, P: Picker + Drop, S: Shelf + Drop>(
     shelf: S,
 ) -> anyhow::Result<Tally> {
     let mut session = Session::open(book, picker, shelf, trial.history.opening.forget)
-        .ok()
-        .context("no session was opened")?;
+        .map_err(|refused| anyhow!("no session was opened: {}", refused.refusal))?;
     replay_calls(&mut trial, &mut session)?;
     compare_codes(
         &mut trial,

@@ -6,7 +6,7 @@ use crate::tally::Tally;
 use anyhow::anyhow;
 use book::{Book, TextBook};
 use parts::Mark;
-use reading::{LoadError, load};
+use reading::load;
 use std::fmt::Display;
 use std::fs;
 use std::ops::RangeInclusive;
@@ -138,9 +138,5 @@ impl<'a> Family<'a> {
 // The book of a file.
 fn read_book(rt: &HostRuntime, name: &str) -> anyhow::Result<TextBook> {
     let text = fs::read(rt, name)?;
-    match load(rt.alloc(), &text) {
-        Ok(book) => Ok(book),
-        Err(LoadError::Faulty(fault)) => Err(anyhow!("{name} is refused: {fault}")),
-        Err(LoadError::NoMemory) => Err(anyhow!("out of memory")),
-    }
+    load(rt.alloc(), &text).map_err(|error| anyhow!("{name}: {error}"))
 }

@@ -1,7 +1,7 @@
 // Books by a definition: pigeon holes, all rules over n parts, and rules that are drawn.
 use crate::dice::Dice;
 use crate::draft::Draft;
-use anyhow::Context;
+use anyhow::anyhow;
 use bays::BayBook;
 use book::{Book, Joined, TextBook};
 use parts::{Mark, Side};
@@ -108,12 +108,17 @@ pub type JoinedBays = Joined<Joined<BayBook, TextBook>, TextBook>;
 
 // Three to five bays of one to four parts, joined with half as many rules of two marks as there are parts, and as many rules of three.
 pub fn bay_book(heap: Global, dice: &mut Dice) -> anyhow::Result<JoinedBays> {
-    let bays = BayBook::new(widths(heap, dice)?).ok().context("no bays")?;
+    let bays = BayBook::new(widths(heap, dice)?)
+        .map_err(|refused| anyhow!("no bays: {}", refused.refusal))?;
     let n = bays.n();
     let twos = random_book(heap, dice, n, n / 2, 2)?;
     let threes = random_book(heap, dice, n, n, 3)?;
-    let first = Joined::new(bays, twos).ok().context("no joined book")?;
-    Joined::new(first, threes).ok().context("no joined book")
+    join(join(bays, twos)?, threes)
+}
+
+// Two books as one.
+fn join<F: Book + Drop, S: Book + Drop>(first: F, second: S) -> anyhow::Result<Joined<F, S>> {
+    Joined::new(first, second).map_err(|refused| anyhow!("no joined book: {}", refused.refusal))
 }
 
 // The widths of the bays.

@@ -1,7 +1,8 @@
 // Judging what a search told, by the book's rules, the holds and the second solver.
 use crate::backtrack::{Outcome, choice_under};
 use book::Book;
-use parts::{Mark, Side};
+use parts::Mark;
+use parts::row::{is_full, is_row, names};
 use std::alloc::{AllocError, Global};
 
 // What a row's codes are before a search.
@@ -17,9 +18,9 @@ pub enum Judgement {
 
 // Judges a row that was told as a choice that fits.
 pub fn judge_choice<B: Book>(book: &B, holds: &[Mark], row: &[u8]) -> Judgement {
-    if row.len() != book.n() || (1..=row.len()).any(|part| side_in(row, part).is_none()) {
+    if !is_row(row, book.n()) || !is_full(row) {
         Judgement::Disagrees("the choice is not full")
-    } else if !holds.iter().all(|hold| is_true(row, *hold)) {
+    } else if !holds.iter().all(|hold| names(row, *hold)) {
         Judgement::Disagrees("the choice leaves a hold")
     } else if !(1..=book.rules()).all(|rule| meets(book, rule, row)) {
         Judgement::Disagrees("the choice breaks a rule")
@@ -72,10 +73,10 @@ pub fn judge_spent(row: &[u8]) -> Judgement {
 
 // Whether the row has nothing for the part, or the side of one of the holds.
 fn names_a_hold(row: &[u8], part: usize, holds: &[Mark]) -> bool {
-    match side_in(row, part) {
-        Some(side) => holds.contains(&Mark { part, side }),
-        None => code_in(row, part) == Some(0),
-    }
+    row.get(part.saturating_sub(1)) == Some(&0)
+        || holds
+            .iter()
+            .any(|hold| hold.part == part && names(row, *hold))
 }
 
 // Whether a mark of the rule is true in the row.
@@ -83,20 +84,5 @@ fn meets<B: Book>(book: &B, rule: usize, row: &[u8]) -> bool {
     let marks = book.marks(rule).unwrap_or(0);
     (1..=marks).any(|place| book
         .mark(rule, place)
-        .is_some_and(|mark| is_true(row, mark)))
-}
-
-// Whether the row has the mark's part on its side.
-fn is_true(row: &[u8], mark: Mark) -> bool {
-    side_in(row, mark.part) == Some(mark.side)
-}
-
-// The side of a part in a row.
-fn side_in(row: &[u8], part: usize) -> Option<Side> {
-    Side::try_from(u64::from(code_in(row, part)?)).ok()
-}
-
-// The code of a part in a row.
-fn code_in(row: &[u8], part: usize) -> Option<u8> {
-    row.get(part.checked_sub(1)?).copied()
+        .is_some_and(|mark| names(row, mark)))
 }

@@ -1,14 +1,14 @@
 // Searching for a choice of a book: by both pickers, on both shelves, under each forgetting rule.
 use crate::judging::{Asked, Judgement, UNTOUCHED, judge_choice, judge_named, judge_spent};
 use crate::tally::Tally;
-use anyhow::Context;
+use anyhow::anyhow;
 use book::Book;
 use parts::limits::MOST_TABLE_PLACES;
-use parts::{Mark, Refusal, Side};
+use parts::{Mark, Refusal, Refused, Side};
 use picker::{Lowest, Picker, Ranked};
 use search::{Answer, Forgetting, Report};
 use session::solve;
-use shelf::{GridShelf, ListShelf, Shelf};
+use shelf::{GridShelf, ListShelf, Shelf, entries};
 use std::alloc::Global;
 use std::fmt::Display;
 
@@ -55,11 +55,10 @@ impl<'a, N: Copy + Display> Trial<'a, N> {
     // Searches by both pickers under one forgetting rule.
     fn search_under<B: Book + Drop>(&mut self, forget: Forgetting, book: B) -> anyhow::Result<B> {
         let n = book.n();
-        let lowest = Lowest::new(n).ok().context("no picker")?;
+        let lowest = Lowest::new(n)?;
         let book = self.search_by("lowest", lowest, forget, book)?;
         let ranked = Ranked::new(highest_in(self.rt.alloc(), n)?)
-            .ok()
-            .context("no ranking")?;
+            .map_err(|refused| anyhow!("no ranking: {}", refused.refusal))?;
         self.search_by("ranked", ranked, forget, book)
     }
 
@@ -94,7 +93,7 @@ impl<'a, N: Copy + Display> Trial<'a, N> {
     }
 
     // Makes the shelf, over a table of such entries, searches once, and judges what is told.
-    fn search_on<T, S, E, F, P, B>(
+    fn search_on<T, S, F, P, B>(
         &mut self,
         bench: Bench,
         picker: P,
@@ -106,16 +105,16 @@ impl<'a, N: Copy + Display> Trial<'a, N> {
     where
         T: Copy,
         S: Shelf + Drop,
-        E: Drop,
         P: Picker + Drop,
         B: Book + Drop,
-        F: FnOnce(usize, usize, Vec<T>) -> Result<S, E>,
+        F: FnOnce(usize, usize, Vec<T>) -> Result<S, Refused<Vec<T>>>,
         requires { F.IsAlwaysCallable new }
     {
         let n = book.n();
         let heap = self.rt.alloc();
-        let table = vec![in heap; entry; places.saturating_mul(n.saturating_add(1))]?;
-        let shelf = new(n, places, table).ok().context("no shelf")?;
+        let table = vec![in heap; entry; entries(n, places)]?;
+        let shelf = new(n, places, table)
+            .map_err(|refused| anyhow!("no shelf: {}", refused.refusal))?;
         let mut row = vec![in heap; UNTOUCHED; n]?;
         let solved = solve(
             book,
