@@ -6,7 +6,7 @@ use Rattle.repair.proofs.repair.Repair.of.Goals as goal
 
 pub returns : goal.returns
 returns c =
-    let reads = c.in_ok-book.ensures in
+    let reads = c.in_ok-book.ensures.value in
     let says = sym c.in_ok-sheet.ensures.reply in
     record {
       book = text_book c.in_ok-book.book;
