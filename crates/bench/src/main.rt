@@ -28,8 +28,9 @@ fn main(rt: HostRuntime) -> anyhow::Result<()> {
 // Loads the book, or tells where it is refused.
 fn bench(rt: &HostRuntime) -> anyhow::Result<()> {
     // a file that cannot be read counts as empty, and one byte past the limit is enough to refuse the text
-    let text = first_bytes(rt, "book.cnf", MOST_TEXT_BYTES as u64 + 1)?
-        .unwrap_or_else(|| Vec::new(rt.alloc()));
+    let text = first_bytes(rt, "book.cnf", MOST_TEXT_BYTES as u64 + 1)?.unwrap_or_else(|| Vec::new(
+        rt.alloc(),
+    ));
     match load(rt.alloc(), &text) {
         Ok(book) => serve_by_sheet(rt, book),
         Err(LoadError::Faulty(fault)) => Ok(say_fault(rt, fault)?),

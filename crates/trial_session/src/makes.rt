@@ -31,8 +31,11 @@ where
     let heap = trial.rt.alloc();
     let opening = &trial.history.opening;
     let table = vec![in heap; entry; entries(opening.parts, opening.places)]?;
-    let shelf = new(opening.parts, opening.places, table)
-        .map_err(|refused| anyhow!("no {}: {}", trial.make, refused.refusal))?;
+    let shelf = new(opening.parts, opening.places, table).map_err(|refused| anyhow!(
+        "no {}: {}",
+        trial.make,
+        refused.refusal
+    ))?;
     let book = make_book(heap, opening)?;
     match &opening.ranking {
         None => {
@@ -40,8 +43,10 @@ where
             replay(trial, book, picker, shelf)
         }
         Some(list) => {
-            let picker = Ranked::new(list.to_vec(heap)?)
-                .map_err(|refused| anyhow!("no ranking: {}", refused.refusal))?;
+            let picker = Ranked::new(list.to_vec(heap)?).map_err(|refused| anyhow!(
+                "no ranking: {}",
+                refused.refusal
+            ))?;
             replay(trial, book, picker, shelf)
         }
     }
@@ -53,6 +58,8 @@ fn make_book(heap: Global, opening: &Opening) -> anyhow::Result<TextBook> {
         marks: marks.to_vec(heap)?,
         ends: ends.to_vec(heap)?,
     };
-    TextBook::new(opening.parts, ends.len(), tables)
-        .map_err(|refused| anyhow!("no book: {}", refused.refusal))
+    TextBook::new(opening.parts, ends.len(), tables).map_err(|refused| anyhow!(
+        "no book: {}",
+        refused.refusal
+    ))
 }

@@ -20,8 +20,9 @@ pub fn replay<B: Book + Drop, P: Picker + Drop, S: Shelf + Drop>(
     picker: P,
     shelf: S,
 ) -> anyhow::Result<Tally> {
-    let mut session = Session::open(book, picker, shelf, trial.history.opening.forget)
-        .map_err(|refused| anyhow!("no session was opened: {}", refused.refusal))?;
+    let mut session = Session::open(book, picker, shelf, trial.history.opening.forget).map_err(
+        |refused| anyhow!("no session was opened: {}", refused.refusal),
+    )?;
     replay_calls(&mut trial, &mut session)?;
     compare_codes(
         &mut trial,

@@ -108,8 +108,10 @@ pub type JoinedBays = Joined<Joined<BayBook, TextBook>, TextBook>;
 
 // Three to five bays of one to four parts, joined with half as many rules of two marks as there are parts, and as many rules of three.
 pub fn bay_book(heap: Global, dice: &mut Dice) -> anyhow::Result<JoinedBays> {
-    let bays = BayBook::new(widths(heap, dice)?)
-        .map_err(|refused| anyhow!("no bays: {}", refused.refusal))?;
+    let bays = BayBook::new(widths(heap, dice)?).map_err(|refused| anyhow!(
+        "no bays: {}",
+        refused.refusal
+    ))?;
     let n = bays.n();
     let twos = random_book(heap, dice, n, n / 2, 2)?;
     let threes = random_book(heap, dice, n, n, 3)?;

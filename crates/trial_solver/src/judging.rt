@@ -82,7 +82,5 @@ fn names_a_hold(row: &[u8], part: usize, holds: &[Mark]) -> bool {
 // Whether a mark of the rule is true in the row.
 fn meets<B: Book>(book: &B, rule: usize, row: &[u8]) -> bool {
     let marks = book.marks(rule).unwrap_or(0);
-    (1..=marks).any(|place| book
-        .mark(rule, place)
-        .is_some_and(|mark| names(row, mark)))
+    (1..=marks).any(|place| book.mark(rule, place).is_some_and(|mark| names(row, mark)))
 }

@@ -57,8 +57,10 @@ impl<'a, N: Copy + Display> Trial<'a, N> {
         let n = book.n();
         let lowest = Lowest::new(n)?;
         let book = self.search_by("lowest", lowest, forget, book)?;
-        let ranked = Ranked::new(highest_in(self.rt.alloc(), n)?)
-            .map_err(|refused| anyhow!("no ranking: {}", refused.refusal))?;
+        let ranked = Ranked::new(highest_in(self.rt.alloc(), n)?).map_err(|refused| anyhow!(
+            "no ranking: {}",
+            refused.refusal
+        ))?;
         self.search_by("ranked", ranked, forget, book)
     }
 
@@ -113,8 +115,10 @@ impl<'a, N: Copy + Display> Trial<'a, N> {
         let n = book.n();
         let heap = self.rt.alloc();
         let table = vec![in heap; entry; entries(n, places)]?;
-        let shelf = new(n, places, table)
-            .map_err(|refused| anyhow!("no shelf: {}", refused.refusal))?;
+        let shelf = new(n, places, table).map_err(|refused| anyhow!(
+            "no shelf: {}",
+            refused.refusal
+        ))?;
         let mut row = vec![in heap; UNTOUCHED; n]?;
         let solved = solve(
             book,
