@@ -6,3 +6,4 @@ pub mod Back
 pub mod RuleFaults
 pub mod RestFaults
 pub mod FirstFaults
+pub mod CasesByComputing

@@ -5,6 +5,10 @@
 ghost use Rattle.std.specs.Prelude.{◌≡◌};
 ghost use Rattle.grammar.specs.Law.{ReadingIsTheFormat, RefusingIsFirst, WritingReadsBack};
 
+mod cases;
+
+pub use cases::cases_stand;
+
 /// How large a book is: its parts and its rules, as its head says.
 #[derive(Clone, Copy, Debug, PartialEq, Eq)]
 pub struct Size {

@@ -1,5 +1,5 @@
 //! The fault that a reading passes up.
-ghost use Rattle.std.specs.Prelude.{◌≡◌, Some};
+ghost use Rattle.std.specs.Prelude.{◌≡◌, ◌↔◌, Some, IsTrue};
 ghost use Rattle.parts.specs.Numbers.{fault_text};
 
 use crate::refusal::Refusal;
@@ -25,6 +25,13 @@ impl Fault {
             byte,
             rule,
         }
+    }
+
+    /// Whether two faults are the same in refusal, byte and rule, by `==`.
+    pub fn is_same(&self, other: &Fault) -> bool
+        ensures { IsTrue result ↔ (self.now ≡ other.now) }
+    {
+        self == other
     }
 }
 

@@ -1,3 +1,4 @@
 pub mod LineOf
 pub mod Accepted
 pub mod FirstFaults
+pub mod CasesByComputing

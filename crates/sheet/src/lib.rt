@@ -2,9 +2,11 @@
 //! by line.
 #![tactic(auto)]
 
+mod cases;
 mod line;
 mod name;
 mod sheet;
 
+pub use cases::cases_stand;
 pub use name::Name;
 pub use sheet::Sheet;
