@@ -1,2 +1,4 @@
+pub mod Names
 pub mod Promise
 pub mod Printing
+pub mod Fitting
