@@ -1,6 +1,7 @@
 -- Which lines say a part or a hold, and which.
-use Rattle.std.proofs.Common.{◌≡◌, ℕ, ◌<◌, eqb, List, [], ◌∷◌, ◌++◌, length, Some, arith, ◌+◌, ◌≤◌, true, ◌⊎◌, None, codes, decimal, Option, rules, append_assoc, length-append}
+use Rattle.std.proofs.Common.{◌≡◌, ℕ, zero, suc, ◌<◌, eqb, List, [], ◌∷◌, ◌++◌, length, Some, arith, ◌+◌, ◌≤◌, true, ◌⊎◌, None, codes, decimal, Option, rules, append_assoc, length-append}
 use Rattle.std.specs.List.{AllByRecursion, position_or_len, list_all}
+use Rattle.std.specs.Prelude.{slice_index}
 use Rattle.std.proofs.lemmas.Grind.{common_steps}
 use Rattle.std.proofs.lemmas.Bool.Decides.{nat_tests}
 use Rattle.std.proofs.lemmas.List.Sums.{split_at_first, passes_at_first}
@@ -58,6 +59,15 @@ digits_plain (b ∷ bs) h = (omega (arith, h.0), digits_plain bs h.1)
 name_plain : (bs : List ℕ) → list_all is_name_byte bs ≡ true → Plain bs
 name_plain [] h = tt
 name_plain (b ∷ bs) h = (grind (arith, nat_tests), name_plain bs (grind arith))
+
+bytes_ascii : (bs : List ℕ) → list_all is_name_byte bs ≡ true → (i : ℕ) → slice_index bs i < 128
+bytes_ascii [] h i = omega arith
+bytes_ascii (b ∷ bs) h zero = grind (arith, nat_tests)
+bytes_ascii (b ∷ bs) h (suc i) = bytes_ascii bs (grind arith) i
+
+-- a name is ASCII
+pub name_ascii : (bs : List ℕ) → is_name bs ≡ true → (i : ℕ) → slice_index bs i < 128
+name_ascii bs h = bytes_ascii bs (grind arith)
 
 side_plain : (s : Side) → Plain (side_text s)
 side_plain s = grind arith

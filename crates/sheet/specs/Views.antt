@@ -10,7 +10,7 @@ use Rattle.sheet.specs.declared.line.Line.TheVariants.{Part, Hold}
 
 -- a name, as a piece of the sheet's text
 abbrev pub name_of : Name → Piece
-name_of n = record { at = n.at; bytes = n.bytes.now }
+name_of n = record { at = n.at; bytes = n.text.now }
 
 abbrev pub line_is : Line → reading.Line
 line_is (Part k n) = reading.part k (name_of n)

@@ -3,7 +3,7 @@ ghost use Rattle.std.specs.Prelude.{◌≡◌};
 ghost use Rattle.std.specs.Option.{option_map};
 ghost use Rattle.sheet.specs.Reading.{line_of, side_of_word};
 
-use crate::name::{Name, is_name};
+use crate::name::Name;
 use parts::{Mark, Side};
 use text::{Piece, cut, number};
 
@@ -25,13 +25,10 @@ impl<'a> Line<'a> {
         let (digits, value) = cut(rest, b'\t')?;
         let part = number(digits);
         match word {
-            b"part" if is_name(value) => Some(Line::Part(
-                part?,
-                Name {
-                    at: line.at + (line.bytes.len() - value.len()),
-                    bytes: value,
-                },
-            )),
+            b"part" => {
+                let at = line.at + (line.bytes.len() - value.len());
+                Some(Line::Part(part?, Name::new(at, value)?))
+            }
             b"hold" => Some(Line::Hold(Mark {
                 part: part?,
                 side: side_of(value)?,

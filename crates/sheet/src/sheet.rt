@@ -1,12 +1,12 @@
 //! A bench sheet, and its reading.
-ghost use Rattle.std.specs.Prelude.{◌≡◌, ◌≤◌, map};
+ghost use Rattle.std.specs.Prelude.{◌≡◌, ◌≤◌, map, IfErr};
 ghost use Rattle.text.specs.Views.{piece_of};
-ghost use Rattle.sheet.specs.Law.{AcceptsTheSheet};
+ghost use Rattle.sheet.specs.Law.{AcceptsTheSheet, FaultIsFirst};
 ghost use Rattle.sheet.specs.Reading.{sheet_of, said_by, line_at};
 ghost use Rattle.sheet.specs.Views.{name_of, SaidBy};
 
 use crate::line::Line;
-use crate::name::Name;
+use crate::name::{Name, Unused};
 use arrayvec::ArrayVec;
 use book::Book;
 use parts::limits::{MOST_PARTS, MOST_SHEET_BYTES};
@@ -17,7 +17,7 @@ use text::{Lines, Piece};
 /// A bench sheet: the parts' names, from part 1 on, and the holds (assumptions).
 #[derive(Drop)]
 pub struct Sheet<'a> {
-    names: ArrayVec<Name<'a>, MOST_PARTS>,
+    names: ArrayVec<Name<'a>, MOST_PARTS, Unused>,
     holds: Holds,
 }
 
@@ -36,17 +36,18 @@ impl<'a> Sheet<'a> {
     /// Reads the sheet of a book's parts. Refused with 26 where the text has more than 8,000 bytes,
     /// at the first byte too many, or at the first line that is malformed or not ended; and with 27
     /// at the first line that is out of order, or at the text's end where a part has no name.
-    #[tactic(auto, using(std::proofs::lemmas::Bool::Decides::nat_tests, crate::proofs::Accepted::reading_is_the_sheet), unfolding(crate::specs::Reading::sheet_of))]
+    #[tactic(auto, using(std::proofs::lemmas::Bool::Decides::nat_tests, crate::proofs::Accepted::reading_is_the_sheet, crate::proofs::FirstFaults::refusing_is_first), unfolding(crate::specs::Reading::sheet_of))]
     pub fn read<B: Book>(text: &'a [u8], book: &B) -> Result<Sheet<'a>, Fault>
         ensures reply { result ≡ sheet_of (B.meaning book.now).n text.now }
         ensures format { AcceptsTheSheet (B.meaning book.now).n text.now }
+        ensures faults { IfErr result (FaultIsFirst (B.meaning book.now).n text.now) }
     {
         if text.len() > MOST_SHEET_BYTES {
             return Err(Fault::new(Refusal::MalformedSheet, MOST_SHEET_BYTES, 0));
         }
         let n = book.n();
         let mut sheet = Sheet {
-            names: ArrayVec::new(),
+            names: ArrayVec::new_in(Unused),
             holds: Holds::empty(),
         };
         for line in Lines::new(text) {
