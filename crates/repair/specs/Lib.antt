@@ -1,4 +1,3 @@
-pub mod Names
 pub mod Promise
 pub mod Printing
 pub mod Fitting

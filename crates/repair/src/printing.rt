@@ -1,15 +1,12 @@
 //! How a repair is printed, or a refusal.
-ghost use Rattle.std.specs.Prelude.{◌≡◌, ◌+◌, ◌*◌, ◌++◌, ◌≤◌, IsTrue, [], length, map};
-ghost use Rattle.std.specs.List.{list_all};
+ghost use Rattle.std.specs.Prelude.{◌≡◌, ◌+◌, ◌*◌, ◌++◌, ◌≤◌, [], length, map};
 ghost use Rattle.std.specs.Option.{option_map, unwrap_or};
 ghost use Rattle.arrayvec.specs.ArrayString.{array_string_len};
 ghost use Rattle.parts.specs.Codes.{side_text};
 ghost use Rattle.parts.specs.Numbers.{fault_text};
 ghost use Rattle.search.specs.Words.{answer_text};
-ghost use Rattle.sheet.specs.Reading.{is_name};
 ghost use Rattle.sheet.specs.Views.{name_of};
 ghost use Rattle.repair.specs.declared.page.TheConstants.{PAGE_BYTES, LINE_BYTES, FRONT_BYTES};
-ghost use Rattle.repair.specs.Names.{is_named};
 ghost use Rattle.repair.specs.Printing.{report_text, side_line, part_text, parts_text, word_text, refused_text};
 ghost use Rattle.repair.specs.Fitting.{fit_text};
 
@@ -19,7 +16,6 @@ use crate::workspace::Workspace;
 use parts::{Fault, Side};
 use search::{Answer, Report};
 use sheet::Name;
-use std::str;
 
 /// The whole text that is printed of the bytes of a book's file and of a sheet's: the repair, or the
 /// first refusal. A file that is not there counts as empty.
@@ -45,7 +41,6 @@ fn bytes_or_none(file: Option<&[u8]>) -> &[u8]
 }
 
 impl Repair<'_> {
-    ghost use Rattle.repair.specs.Names.{is_named};
     ghost use Rattle.repair.specs.Printing.{repair_text};
 
     /// Verdict, steps and turns, a line each; then a line for each part that the row names.
@@ -98,7 +93,6 @@ fn put_report(page: &mut Page, report: Report)
 // The lines of the parts that a row names, by rising part.
 fn put_parts(page: &mut Page, word: &str, row: &[u8], names: &[Name<'_>])
     requires word { length word.now ≤ 4 }
-    requires names { IsTrue (list_all is_named (map name_of names.now)) }
     requires room { array_string_len page.old + LINE_BYTES * length names.now ≤ PAGE_BYTES }
     ensures { page.new.bytes ≡ page.old.bytes ++ parts_text word.now row.now 0 (map name_of names.now) }
 {
@@ -111,9 +105,8 @@ fn put_parts(page: &mut Page, word: &str, row: &[u8], names: &[Name<'_>])
 // The line of a part that a row names; nothing for a part that it does not name.
 fn put_part(page: &mut Page, word: &str, part: usize, code: u8, name: Name<'_>)
     requires word { length word.now ≤ 4 }
-    requires name { IsTrue (is_name name.bytes.now) }
     requires room { array_string_len page.old + LINE_BYTES ≤ PAGE_BYTES }
-    ensures text { page.new.bytes ≡ page.old.bytes ++ part_text word.now part code name.entry.bytes.now }
+    ensures text { page.new.bytes ≡ page.old.bytes ++ part_text word.now part code name.entry.text.now }
     ensures short { array_string_len page.new ≤ array_string_len page.old + LINE_BYTES }
 {
     if let Ok(side) = Side::try_from(u64::from(code)) {
@@ -122,24 +115,20 @@ fn put_part(page: &mut Page, word: &str, part: usize, code: u8, name: Name<'_>)
 }
 
 // Word, number, side and name.
+#[tactic(auto, using(std::proofs::lemmas::Bool::Decides::nat_tests))]
 fn put_line(page: &mut Page, word: &str, part: usize, side: Side, name: Name<'_>)
     requires word { length word.now ≤ 4 }
-    requires name { IsTrue (is_name name.bytes.now) }
     requires room { array_string_len page.old + LINE_BYTES ≤ PAGE_BYTES }
-    ensures text { page.new.bytes ≡ page.old.bytes ++ side_line word.now part name.entry.bytes.now side }
+    ensures text { page.new.bytes ≡ page.old.bytes ++ side_line word.now part name.entry.text.now side }
     ensures short { array_string_len page.new ≤ array_string_len page.old + LINE_BYTES }
 {
-    // the bytes of a name are capital letters, digits and hyphens
-    let Ok(name) = str::from_utf8(name.bytes) else {
-        unreachable();
-    };
     page.push_str(word);
     page.push_str("\t");
     put_number(page, part);
     page.push_str("\t");
     page.push_str(side_word(side));
     page.push_str("\t");
-    page.push_str(name);
+    page.push_str(name.text);
     page.push_str("\n");
 }
 

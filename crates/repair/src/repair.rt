@@ -1,8 +1,6 @@
 //! A repair, from its two texts.
-ghost use Rattle.std.specs.Prelude.{◌≤◌, IsTrue, length};
-ghost use Rattle.std.specs.List.{list_all};
+ghost use Rattle.std.specs.Prelude.{◌≤◌, length};
 ghost use Rattle.parts.specs.declared.limits.TheConstants.{MOST_PARTS};
-ghost use Rattle.repair.specs.Names.{is_named};
 
 use crate::solution::{Solution, solve_under};
 use crate::workspace::Workspace;
@@ -17,7 +15,6 @@ pub struct Repair<'a> {
     pub sheet: Sheet<'a>,
     pub solution: Solution,
     ghost few: { length sheet.names ≤ MOST_PARTS },
-    ghost named: { IsTrue (list_all is_named sheet.names) },
 }
 
 impl<'a> Repair<'a> {

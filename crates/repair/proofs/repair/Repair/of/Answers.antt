@@ -1,12 +1,11 @@
-use Rattle.std.proofs.Common.{◌≡◌, sym, subst, ap, ◌∙◌, length, ◌≤◌, Ok, arith}
+use Rattle.std.proofs.Common.{◌≡◌, sym, Ok}
 use Rattle.parts.specs.declared.limits.TheConstants.{MOST_PARTS, MOST_TEXT_MARKS, MOST_TEXT_RULES}
-use Rattle.book.specs.Meaning.{RuleBook}
 use Rattle.book.specs.Makes.{text_book}
 use Rattle.grammar.specs.Format.{Format}
 use Rattle.grammar.proofs.Accepted.{reading_is_the_format}
 use Rattle.sheet.specs.Format.{placed}
 use Rattle.repair.specs.Promise.{reads}
-use Rattle.repair.proofs.Named.{placed_named, placed_length, short_row}
+use Rattle.repair.proofs.Named.{placed_length, short_row}
 use Rattle.repair.proofs.repair.Repair.of.Goals as goal
 use Rattle.repair.proofs.repair.Repair.of.Goals.{After-n}
 
@@ -22,17 +21,12 @@ solve_under-solution-requires-clause-blank c =
     let few = (format q).few in
     rw (c.truncate.ensures.items, c.args.workspace.blank, c.n.ensures) (short_row 0 (text_book c.in-Ok.book).n MOST_PARTS few)
 
-pub invariant_of-result-clause-few : goal.invariant_of-result-clause-few
-invariant_of-result-clause-few c =
-    let q = (goal.at.invariant_of-result-clause-few c).After-n in
+pub invariant_of-result : goal.invariant_of-result
+invariant_of-result c =
+    let q = (goal.at.invariant_of-result c).After-n in
     let (names, placed, f) = c.in_ok-sheet.ensures.format.only _ (sym c.in_ok-sheet.ensures.reply) in
     let few = (format q).few in
-    rw (placed, placed_length 0 1 names, f.each) few
-
-pub invariant_of-result-clause-named : goal.invariant_of-result-clause-named
-invariant_of-result-clause-named c =
-    let (names, placed, f) = c.in_ok-sheet.ensures.format.only _ (sym c.in_ok-sheet.ensures.reply) in
-    rw (placed, placed_named 0 1 names) f.names_are
+    record { few = rw (placed, placed_length 0 1 names, f.each) few }
 
 pub returns : goal.returns
 returns c =
