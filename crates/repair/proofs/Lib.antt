@@ -1,2 +1,4 @@
+pub mod Fitted
 pub mod Lines
+pub mod Named
 pub mod Solving

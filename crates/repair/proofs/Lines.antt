@@ -14,5 +14,5 @@ next_name (x ∷ names) (suc i) d h = grind (arith, common_steps, next_name name
 -- one line more
 pub one_more : (word row : List ℕ) (names : List Name) (i code : ℕ) (name : Name) (done all : List ℕ) → i < length names → code ≡ get_or row i 0 → name ≡ get_or names i name
     → done ++ parts_text word row i (drop i (map name_of names)) ≡ all
-    → (done ++ part_text word (i + 1) code name.bytes.now) ++ parts_text word row (i + 1) (drop (i + 1) (map name_of names)) ≡ all
-one_more word row names i code name done all h c e so_far = grind (arith, append_assoc done (part_text word (i + 1) code name.bytes.now) (parts_text word row (i + 1) (drop (i + 1) (map name_of names))), next_name names i name h)
+    → (done ++ part_text word (i + 1) code name.text.now) ++ parts_text word row (i + 1) (drop (i + 1) (map name_of names)) ≡ all
+one_more word row names i code name done all h c e so_far = grind (arith, append_assoc done (part_text word (i + 1) code name.text.now) (parts_text word row (i + 1) (drop (i + 1) (map name_of names))), next_name names i name h)

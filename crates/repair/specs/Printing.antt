@@ -1,6 +1,8 @@
 -- How a repair is printed.
 use Rattle.std.specs.Prelude.{ℕ, ◌+◌, List, [], ◌∷◌, ◌++◌, None, Some, codes, decimal, Option, slice_index, vec_items}
 use Rattle.parts.specs.Codes.{side_of, side_text}
+use Rattle.parts.specs.Numbers.{fault_text}
+use Rattle.parts.specs.declared.fault.Fault.{Fault}
 use Rattle.parts.specs.declared.side.Side.{Side}
 use Rattle.search.specs.declared.report.Answer.{Answer}
 use Rattle.search.specs.declared.report.Answer.TheVariants.{Fits, NoneFits, Spent}
@@ -39,7 +41,12 @@ report_text r =
     codes "verdict\t" ++ (answer_text r.answer ++ (codes "\nsteps\t" ++ (decimal r.steps ++ (codes "\nturns\t" ++ (decimal r.turns ++ codes "\n")))))
 
 -- then the parts of a choice that fits, or the holds that leave none, by rising part
+abbrev pub solution_text : Report → List ℕ → List Piece → List ℕ
+solution_text r row names = report_text r ++ parts_text (word_text r.answer) row 0 names
+
 abbrev pub repair_text : Repair → List ℕ
-repair_text r =
-    report_text r.solution.report
-    ++ parts_text (word_text r.solution.report.answer) (vec_items r.solution.row) 0 r.sheet.names
+repair_text r = solution_text r.solution.report (vec_items r.solution.row) r.sheet.names
+
+-- a refusal: number, byte and rule
+abbrev pub refused_text : Fault → List ℕ
+refused_text f = codes "refused\t" ++ (fault_text f ++ codes "\n")

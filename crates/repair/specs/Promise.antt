@@ -13,8 +13,6 @@ use Rattle.search.specs.Machine.{Bench, Machine}
 use Rattle.session.specs.Solving.{solved, solved_row, SolvedTruly}
 use Rattle.grammar.specs.Format as grammar
 use Rattle.grammar.specs.Reading.{read_of}
-use Rattle.reading.specs.declared.loading.LoadError.{LoadError}
-use Rattle.reading.specs.declared.loading.LoadError.TheVariants.{Faulty, NoMemory}
 use Rattle.sheet.specs.Format as sheets
 use Rattle.sheet.specs.Reading.{Said, sheet_of}
 use Rattle.repair.specs.declared.solution.Solution.{Solution}
@@ -61,8 +59,7 @@ pub record Repaired (text sheet : List ℕ) (r : Repair) : Type 0 where
   pub sheet_format : StandsFor book.n r.sheet sheet
   pub solved : SolvedUnder book r.sheet.holds r.solution
 
--- the first fault: the book's, else the sheet's; or that memory failed, which says nothing of the texts
-abbrev pub Refused : List ℕ → List ℕ → LoadError → Type 0
-Refused text sheet (Faulty f) =
+-- the first fault: the book's, else the sheet's
+abbrev pub Refused : List ℕ → List ℕ → Fault → Type 0
+Refused text sheet f =
     (reads text ≡ Err f) ⊎ ((b : RuleBook) × (reads text ≡ Ok b) × (sheet_of b.n sheet ≡ Err f))
-Refused text sheet NoMemory = Unit {0}

@@ -1,7 +1,8 @@
 //! The solution of a book under holds.
-ghost use Rattle.std.specs.Prelude.{IsTrue, IfOk};
+ghost use Rattle.std.specs.Prelude.{◌≡◌, ◌≤◌, IsTrue, length};
 ghost use Rattle.parts.specs.Distinct.{is_distinct};
-ghost use Rattle.repair.specs.Promise.{SolvedUnder};
+ghost use Rattle.shelf.specs.Table.{entries_of};
+ghost use Rattle.repair.specs.Promise.{SolvedUnder, blank};
 
 use book::Book;
 use parts::Mark;
@@ -10,7 +11,6 @@ use picker::Lowest;
 use search::{Forgetting, Report};
 use session::solve;
 use shelf::ListShelf;
-use std::alloc::{AllocError, Global};
 
 /// What the search reports, and the row that it filled: with a choice that fits, or with the holds that leave none.
 #[derive(Drop)]
@@ -19,24 +19,27 @@ pub struct Solution {
     pub row: Vec<u8>,
 }
 
-// Searches for a choice of a book under holds: the lowest open part first, all lessons kept on a shelf of lists, one run.
+// Searches for a choice of a book under holds: the lowest open part first, all lessons kept on a shelf of lists over the table, one run.
+// The row is filled with what the verdict shows.
 pub(crate) fn solve_under<B: Book + Drop>(
-    heap: Global,
     book: B,
+    table: Vec<u16>,
+    row: Vec<u8>,
     holds: &[Mark],
-) -> Result<Solution, AllocError>
-    requires { IsTrue (is_distinct (B.meaning book).n holds.now) }
-    ensures { IfOk result (SolvedUnder (B.meaning book) holds.now) }
+) -> Solution
+    requires room { entries_of (B.meaning book).n MOST_TABLE_PLACES ≤ length table.items }
+    requires blank { row.items ≡ blank (B.meaning book).n }
+    requires held { IsTrue (is_distinct (B.meaning book).n holds.now) }
+    ensures { SolvedUnder (B.meaning book) holds.now result }
 {
     let n = book.n();
     let Ok(picker) = Lowest::new(n) else {
         unreachable();
     };
-    let table = vec![in heap; 0u16; MOST_TABLE_PLACES * (n + 1)]?;
     let Ok(shelf) = ListShelf::new(n, MOST_TABLE_PLACES, table) else {
         unreachable();
     };
-    let mut row = vec![in heap; 0u8; n]?;
+    let mut row = row;
     let solved = solve(
         book,
         picker,
@@ -49,5 +52,5 @@ pub(crate) fn solve_under<B: Book + Drop>(
     let Ok(report) = solved.reply else {
         unreachable();
     };
-    Ok(Solution { report, row })
+    Solution { report, row }
 }

@@ -21,6 +21,11 @@ unreachable-requires g c =
     let law = g.B.Book.sound c.args.book in
     grind (arith, nat_tests, law.some, law.few)
 
+pub unreachable-requires-in_default-new : goal.unreachable-requires-in_default-new
+unreachable-requires-in_default-new g c =
+    let law = g.B.Book.sound c.args.book in
+    grind (arith, nat_tests, law.some, law.few, c.requires.room, c.n-n.ensures)
+
 module _ (g : Over) (c : After-solve-solved g) where
   abbrev b : RuleBook
   b = g.B.Book.meaning c.args.book
@@ -32,13 +37,13 @@ module _ (g : Over) (c : After-solve-solved g) where
   shelved = c.in-Ok-new.ensures.value.0 ∙ ap (λ k. empty_shelf k MOST_TABLE_PLACES) c.n-n.ensures
 
   blank_row : c.deref_mut.result.now ≡ blank b.n
-  blank_row = c.deref_mut.ensures.value ∙ c.in_ok-row.ensures.items_if_clones_equal (λ y e. e) ∙ ap blank c.n-n.ensures
+  blank_row = c.deref_mut.ensures.value ∙ c.requires.blank
 
-  filled_row : (with_items c.in_ok-row.row c.solve-solved.new.row).items ≡ c.solve-solved.new.row
-  filled_row = with_items_is c.in_ok-row.row _ (c.solve-solved.auto.row ∙ c.deref_mut.ensures.len)
+  filled_row : (with_items c.args.row c.solve-solved.new.row).items ≡ c.solve-solved.new.row
+  filled_row = with_items_is c.args.row _ (c.solve-solved.auto.row ∙ c.deref_mut.ensures.len)
 
   none : refuses_solve (bench b) (lowest_picker c.in-Ok.picker) (list_meaning c.in-Ok-new.shelf) c.args.holds.now MOST_BUDGET (length c.deref_mut.result.now) ≡ None
-  none = accepted b (lowest_picker c.in-Ok.picker) (list_meaning c.in-Ok-new.shelf) c.args.holds.now _ (ap (λ p. p.n) picks) (ap (λ s. s.n) shelved) (ap length blank_row ∙ length-replicate b.n 0) c.requires
+  none = accepted b (lowest_picker c.in-Ok.picker) (list_meaning c.in-Ok-new.shelf) c.args.holds.now _ (ap (λ p. p.n) picks) (ap (λ s. s.n) shelved) (ap length blank_row ∙ length-replicate b.n 0) c.requires.held
 
 pub unreachable-requires-in_default-reply : goal.unreachable-requires-in_default-reply
 unreachable-requires-in_default-reply g c =
