@@ -1,5 +1,5 @@
 //! Forgetting: which lessons are cleared at the end of a turn.
-ghost use Rattle.std.specs.Prelude.{◌≡◌, [], Some};
+ghost use Rattle.std.specs.Prelude.{◌≡◌, [], Some, Ok};
 ghost use Rattle.std.specs.Option.{unwrap_or};
 ghost use Rattle.parts.specs.Rows.{row_marks};
 ghost use Rattle.shelf.specs.Meaning.{row_at, marks_of_place};
@@ -25,12 +25,12 @@ pub fn is_forgotten(forget: Forgetting, marks: usize, unsettled: usize) -> bool
 
 // How many marks of the lesson in a place are open under the trail.
 fn open_marks<S: Shelf>(shelf: &S, place: usize, marks: usize, trail: &Trail) -> usize
-    requires { Some marks ≡ marks_of_place (S.Shelf.meaning shelf.now) place }
+    requires { Ok (Some marks) ≡ marks_of_place (S.Shelf.meaning shelf.now) place }
     ensures { result ≡ open_count (settled_row trail.now.n trail.now.entries)
         (row_marks (unwrap_or (row_at (S.Shelf.meaning shelf.now) place) [])) }
 {
     (1..=marks)
-        .filter_map(|k| shelf.mark(place, k))
+        .filter_map(|k| shelf.mark(place, k).ok().flatten())
         .filter(|mark| trail.is_open(*mark))
         .count()
 }
@@ -41,7 +41,7 @@ fn drops<S: Shelf>(shelf: &S, forget: Forgetting, trail: &Trail, place: usize) -
     ensures { result ≡ drops forget (settled_row trail.now.n trail.now.entries) trail.now.entries place
         (row_at (S.Shelf.meaning shelf.now) place) }
 {
-    let Some(marks) = shelf.marks(place) else {
+    let Ok(Some(marks)) = shelf.marks(place) else {
         return false;
     };
     let unsettled = open_marks(shelf, place, marks, trail);

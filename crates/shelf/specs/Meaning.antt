@@ -45,12 +45,19 @@ code_of_place s place part =
     then Ok (option_map (λ row. slice_index row (part - 1)) (row_at s place))
     else Err ShelfOutOfRange
 
--- how many marks a place's row names, and one of them by rising part, counted from 1
-abbrev pub marks_of_place : Shelved → ℕ → Option ℕ
-marks_of_place s place = option_map (λ row. length (row_marks row)) (row_at s place)
+-- how many marks a place's row names, and one of them by rising part, counted from 1;
+-- nothing where the place is empty, or its row has no such mark
+abbrev pub marks_of_place : Shelved → ℕ → Result (Option ℕ) Refusal
+marks_of_place s place =
+    if is_place (length s.rows) place
+    then Ok (option_map (λ row. length (row_marks row)) (row_at s place))
+    else Err ShelfOutOfRange
 
-abbrev pub mark_of_place : Shelved → ℕ → ℕ → Option Mark
-mark_of_place s place k = option_and_then (λ row. at_place (row_marks row) k) (row_at s place)
+abbrev pub mark_of_place : Shelved → ℕ → ℕ → Result (Option Mark) Refusal
+mark_of_place s place k =
+    if is_place (length s.rows) place
+    then Ok (option_and_then (λ row. at_place (row_marks row) k) (row_at s place))
+    else Err ShelfOutOfRange
 
 -- whether a row may be put at a place, and whether a place may be emptied
 abbrev pub can_write : Shelved → ℕ → Row → Bool
