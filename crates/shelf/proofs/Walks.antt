@@ -44,7 +44,7 @@ PassedTo p k cs ms part = (j : ℕ) × (part ≡ p + j) × (marks_from (suc part
 
 passed_at : (p k c : ℕ) (cs : List ℕ) (part : ℕ) (next : (k : ℕ) → suc k ≤ length (marks_from (suc p) cs) → part ≡ last_part (marks_from (suc p) cs) (suc k) → PassedTo (suc p) k cs (marks_from (suc p) cs) part) (o : Option Side)
     → suc k ≤ length (with_mark o p (marks_from (suc p) cs)) → part ≡ last_part (with_mark o p (marks_from (suc p) cs)) (suc k) → PassedTo p k (c ∷ cs) (with_mark o p (marks_from (suc p) cs)) part
-unfolding PassedTo
+unfolding PassedTo last_part
 passed_at p k c cs part next None h e = let m : PassedTo (suc p) k cs (marks_from (suc p) cs) part = next k h e in (suc m.0, omega arith, m.2)
 passed_at p zero c cs part next (Some s) h e = (0, omega arith, ap (λ x. marks_from (suc x) cs) e)
 passed_at p (suc k) c cs part next (Some s) h e = let m : PassedTo (suc p) k cs (marks_from (suc p) cs) part = next k (omega arith) e in (suc m.0, omega arith, m.2)
@@ -59,7 +59,7 @@ first_left (suc k) [] = refl
 first_left (suc k) (x ∷ xs) = first_left k xs
 
 pub passed_to : (row : List ℕ) (passed part : ℕ) → HasPassed (marks_from 1 row) passed part → at_place (left_from (part + 1) row) 1 ≡ at_place (marks_from 1 row) (passed + 1)
-unfolding PassedTo
+unfolding PassedTo last_part
 passed_to row zero part h = let e : part ≡ 0 = h.last in rw e refl
 passed_to row (suc k) part h =
     let m : PassedTo 1 k row (marks_from 1 row) part = passed_from 1 k row part h.few h.last in
@@ -71,6 +71,7 @@ passed_to row (suc k) part h =
 walk_end : (s : Shelved) → Sound s → (place passed part before : ℕ) → HasPassed (marks_on s place) passed part → s.n ≤ before → part ≤ before → (part < before → is_some (row_at s place) ≡ true)
     → option_and_then (λ row. at_place (left_from (before + 1) row) 1) (row_at s place) ≡ option_and_then (λ row. at_place (row_marks row) (passed + 1)) (row_at s place)
     → (o : Option (List ℕ)) → row_at s place ≡ o → Ok None ≡ mark_of_place s place (passed + 1)
+unfolding last_part
 walk_end s ok place passed part before h n l some e None r = absurd (grind (arith, ok.some, h))
 walk_end s ok zero passed part before h n l some e (Some row) r = absurd (grind arith)
 walk_end s ok (suc k) passed part before h n l some e (Some row) r =

@@ -64,7 +64,7 @@ abbrev pub marks_on : Shelved → ℕ → List Mark
 marks_on s place = row_marks (unwrap_or (row_at s place) [])
 
 -- the part that the last of so many marks names; 0 where there is none
-abbrev pub last_part : List Mark → ℕ → ℕ
+unfoldable pub last_part : List Mark → ℕ → ℕ
 last_part ms passed = unwrap_or (option_map (λ m. m.part) (at_place ms passed)) 0
 
 -- so many of the marks are passed, the last of which names that part
