@@ -1,5 +1,5 @@
 -- The open marks of a lesson, the places that are asked in turn, and the places that forgetting leaves.
-use Rattle.std.proofs.Common.{◌≡◌, ℕ, zero, suc, ◌+◌, ◌-◌, ◌<◌, ◌≤◌, Bool, false, not, cond, List, [], ◌∷◌, ◌++◌, slice_get, length, add-one, take, drop, Some, None, Ok, Option, MatchOption, refl, arith}
+use Rattle.std.proofs.Common.{◌≡◌, ℕ, zero, suc, ◌+◌, ◌-◌, ◌<◌, ◌≤◌, Bool, false, not, cond, List, [], ◌∷◌, ◌++◌, slice_get, length, count_by, add-one, take, drop, Some, None, Ok, Option, MatchOption, refl, arith}
 use Rattle.std.specs.List.{find, range_with_len}
 use Rattle.std.proofs.iter.runs.Sources.{nat_range_inclusive_steps}
 use Rattle.std.specs.Range.{range_inclusive_start, range_inclusive_end, range_inclusive_exhausted, range_inclusive_left}
@@ -33,11 +33,17 @@ got k [] l = absurd (omega arith)
 got zero (x ∷ xs) l = (x, refl)
 got (suc k) (x ∷ xs) l = got k xs (omega arith)
 
+count_cons : {X : Type 0} (p : X → Bool) (x : X) (xs : List X) → count_by p (x ∷ xs) ≡ cond (p x) 1 0 + count_by p xs
+count_cons p x xs = grind arith
+
+count_step : {X : Type 0} (p : X → Bool) (xs : List X) (k : ℕ) (x : X) → slice_get xs k ≡ Some x → count_by p (drop k xs) ≡ cond (p x) 1 0 + count_by p (drop (suc k) xs)
+count_step p [] k x h = absurd cc
+count_step p (y ∷ xs) zero x h = let e : y ≡ x = cc in rw (← e) (count_cons p y xs)
+count_step p (y ∷ xs) (suc k) x h = count_step p xs k x h
+
 open_step : (now : Row) (ms : List Mark) (k : ℕ) (m : Mark) → slice_get ms k ≡ Some m → open_count now (drop k ms) ≡ cond (says_open (truth now m)) 1 0 + open_count now (drop (suc k) ms)
 unfolding open_count
-open_step now [] k m h = absurd cc
-open_step now (x ∷ xs) zero m h = grind arith
-open_step now (x ∷ xs) (suc k) m h = open_step now xs k m h
+open_step now ms k m h = count_step (λ (m : Mark). says_open (truth now m)) ms k m h
 
 -- the open marks of a lesson from one of its marks on
 module _ (now : Row) (s : Shelved) (place : ℕ) where
