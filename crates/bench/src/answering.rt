@@ -2,7 +2,7 @@
 use crate::command::Call;
 use crate::reply::Reply;
 use book::Book;
-use parts::refusals::Refusal;
+use parts::Refusal;
 use picker::Picker;
 use session::Session;
 use shelf::Shelf;
@@ -37,7 +37,7 @@ impl<B: Book, P: Picker, S: Shelf> Answering for Session<B, P, S> {
             Call::Settled { part } => told(self.settled(part), Reply::Code),
             Call::Code { place, part } => told(self.shelf_code(place, part), code),
             Call::Lesson { place } => lesson(heap, self, parts, place)?,
-            Call::Counts => Reply::Told(self.report()),
+            Call::Counts => Reply::Counts(self.verdict(), self.steps(), self.turns()),
         })
     }
 }

@@ -13,8 +13,8 @@ use crate::desk::{Desk, Next};
 use crate::names::Names;
 use crate::opening::{Served, open};
 use anyhow::bail;
-use book::text::TextBook;
-use reading::loading::{Unloaded, load};
+use book::TextBook;
+use reading::{LoadError, load};
 use sheet::Sheet;
 use std::fs;
 
@@ -28,8 +28,8 @@ fn bench(rt: &HostRuntime) -> anyhow::Result<()> {
     let text = fs::read(rt, "book.cnf").unwrap_or_else(|_| Vec::new(rt.alloc()));
     match load(rt.alloc(), &text) {
         Ok(book) => serve_by_sheet(rt, book),
-        Err(Unloaded::Faulty(fault)) => Ok(println!(rt; "refused\t{fault}")?),
-        Err(Unloaded::NoMemory) => bail!("out of memory"),
+        Err(LoadError::Faulty(fault)) => Ok(println!(rt; "refused\t{fault}")?),
+        Err(LoadError::NoMemory) => bail!("out of memory"),
     }
 }
 

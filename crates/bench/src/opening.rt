@@ -2,17 +2,12 @@
 use crate::desk::{Desk, Next};
 use crate::reply::Reply;
 use crate::setup::{PickerMake, ShelfMake};
-use book::Book;
-use book::text::TextBook;
+use book::{Book, TextBook};
 use parts::limits::MOST_PLACES;
-use parts::refusals::{Refusal, Refused};
-use picker::Picker;
-use picker::lowest::Lowest;
-use picker::ranked::Ranked;
+use parts::{Refusal, Refused};
+use picker::{Lowest, Picker, Ranked};
 use session::Session;
-use shelf::Shelf;
-use shelf::grid::GridShelf;
-use shelf::list::ListShelf;
+use shelf::{GridShelf, ListShelf, Shelf};
 
 // The book, as it comes back, and what is to come next.
 #[derive(Drop)]

@@ -1,8 +1,7 @@
 // Replies, and how each is printed: fields parted by tabs.
 use crate::names::Names;
-use parts::Side;
-use parts::refusals::Refusal;
-use search::Report;
+use parts::{Refusal, Side};
+use search::{Answer, Report};
 use std::fmt;
 
 // What a command is answered.
@@ -10,6 +9,8 @@ use std::fmt;
 pub enum Reply {
     Done,
     Told(Report),
+    // the verdict that stands, steps and turns
+    Counts(Option<Answer>, usize, usize),
     // the choice, or the named holds
     Row(Vec<u8>),
     // the codes of a place
@@ -54,6 +55,7 @@ impl fmt::Display for Shown<'_> {
         match self.reply {
             Reply::Done => write!(f, "ok"),
             Reply::Told(report) => print_report(f, report),
+            Reply::Counts(verdict, steps, turns) => { print_counts(f, *verdict, *steps, *turns) }
             Reply::Row(row) if self.names.is_empty() => print_fields(f, row),
             Reply::Row(row) => print_sides(f, self.names, row),
             Reply::Lesson(row) => print_fields(f, row),
@@ -68,7 +70,30 @@ impl fmt::Display for Shown<'_> {
 
 // What a search tells, and its steps and turns.
 fn print_report<W: fmt::Write>(f: &mut fmt::Formatter<W>, report: &Report) -> fmt::Result {
-    write!(f, "{}\t{}\t{}", report.told, report.steps, report.turns)
+    write!(f, "{}\t{}\t{}", report.answer, report.steps, report.turns)
+}
+
+// The verdict that stands, and the steps and turns; where none stands, "spent" after a run and "working" before the first.
+fn print_counts<W: fmt::Write>(
+    f: &mut fmt::Formatter<W>,
+    verdict: Option<Answer>,
+    steps: usize,
+    turns: usize,
+) -> fmt::Result {
+    match verdict {
+        None if steps == 0 => write!(f, "working\t{steps}\t{turns}"),
+        _ => {
+            let answer = verdict.unwrap_or(Answer::Spent);
+            print_report(
+                f,
+                &Report {
+                    answer,
+                    steps,
+                    turns,
+                },
+            )
+        }
+    }
 }
 
 // A field for each thing.

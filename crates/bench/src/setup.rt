@@ -1,6 +1,6 @@
 // What the next session is opened with.
 use parts::Mark;
-use parts::limits::MOST_PLACES;
+use parts::limits::MOST_TABLE_PLACES;
 use search::Forgetting;
 
 // Which picker, and of what.
@@ -38,7 +38,7 @@ impl Setup {
     pub fn usual() -> Setup {
         Setup {
             picker: PickerMake::Lowest,
-            shelf: ShelfMake::List(MOST_PLACES),
+            shelf: ShelfMake::List(MOST_TABLE_PLACES),
             forget: Forgetting::KeepAll,
         }
     }

@@ -5,8 +5,10 @@ use Rattle.std.proofs.lemmas.Bool.Decides.{nat_tests}
 use Rattle.std.proofs.lemmas.Bool.{and_from, le-leb}
 use Rattle.parts.specs.declared.mark.Mark.{Mark}
 use Rattle.parts.specs.declared.side.Side.{Side}
-use Rattle.book.specs.Meaning.{Rule, count_marks, sound_rule, sound_rules}
+use Rattle.book.specs.Meaning.{Rule, count_marks, sound_rules}
+use Rattle.book.specs.Proved.{rule_distinct}
 use Rattle.parts.specs.declared.limits.TheConstants.{MOST_PARTS, MOST_TEXT_RULES, MOST_TEXT_MARKS}
+use Rattle.parts.specs.Distinct.{is_distinct}
 use Rattle.parts.specs.Marks.{mark_from, on_side, number_from}
 use Rattle.book.specs.Tables.{cut, book_in, rising, marks_limit, has_book, mark_table, end_table}
 
@@ -14,7 +16,7 @@ use Rattle.book.specs.Tables.{cut, book_in, rising, marks_limit, has_book, mark_
 mark_back : (s : Side) (p : ℕ) → 1 ≤ p → mark_from (on_side s p) ≡ record { part = p; side = s }
 mark_back s p h = grind arith
 
-rule_back : (n : ℕ) (r : Rule) → sound_rule n r ≡ true → map mark_from (map number_from r) ≡ r
+rule_back : (n : ℕ) (r : Rule) → is_distinct n r ≡ true → map mark_from (map number_from r) ≡ r
 rule_back n [] h = refl
 rule_back n (m ∷ r) h = grind (arith, nat_tests, mark_back m.side m.part, rule_back n r)
 
@@ -38,6 +40,7 @@ cut_back n from before (r ∷ rs) marks' l h =
     grind (
       arith,
       nat_tests,
+      rule_distinct n r,
       rule_back n r,
       append_assoc (map number_from r) (mark_table rs) marks',
       map-append mark_from (map number_from r) (mark_table rs ++ marks'),

@@ -5,9 +5,14 @@ use Rattle.std.proofs.lemmas.Bool.{and_parts, and_from, eqb-true, leb-true}
 use Rattle.std.proofs.lemmas.List.Folds.{list_all-append}
 use Rattle.parts.specs.declared.limits.TheConstants.{MOST_PARTS, MOST_RULES, MOST_TEXT_RULES}
 use Rattle.parts.specs.declared.mark.Mark.{Mark}
+use Rattle.parts.specs.Distinct.{is_distinct}
 use Rattle.book.specs.Meaning.{Rule, RuleBook, Sound, sound_rule, sound_rules}
 use Rattle.book.specs.Tables.{cut, rising, marks_limit, has_book, book_in}
 use Rattle.book.specs.Joining.{joinable, both_rules}
+
+-- a rule of a book is a list of marks of distinct parts: whoever needs no more of it asks for this
+pub rule_distinct : (n : ℕ) (r : Rule) → sound_rule n r ≡ true → is_distinct n r ≡ true
+rule_distinct n r h = h
 
 -- what `has_book` says, part by part
 pub record BookParts (n m : ℕ) (marks : List ℤ) (ends : List ℕ) : Type 0 where

@@ -1,8 +1,8 @@
-// fit: reads book.cnf and bench.txt in the current folder, and prints whether the parts can be chosen, and how.
+//! fit: reads book.cnf and bench.txt in the current folder, and prints whether the parts can be chosen, and how.
 #![tactic(auto)]
 
 use anyhow::bail;
-use reading::loading::Unloaded;
+use reading::LoadError;
 use repair::Repair;
 use std::fs;
 
@@ -15,8 +15,8 @@ fn fit(rt: &HostRuntime) -> anyhow::Result<()> {
     let sheet = file(rt, "bench.txt");
     match Repair::of(rt.alloc(), &book, &sheet) {
         Ok(repair) => Ok(print!(rt; "{repair}")?),
-        Err(Unloaded::Faulty(fault)) => Ok(println!(rt; "refused\t{fault}")?),
-        Err(Unloaded::NoMemory) => bail!("out of memory"),
+        Err(LoadError::Faulty(fault)) => Ok(println!(rt; "refused\t{fault}")?),
+        Err(LoadError::NoMemory) => bail!("out of memory"),
     }
 }
 

@@ -125,9 +125,13 @@ from_head marks ends end (l ∷ ls) =
           ]
     ]
 
+-- what a text of any length reads as
+abbrev pub lines_read : ℕ → ℕ → List ℕ → Result RuleBook Fault
+lines_read marks ends text = from_head marks ends (length text) (lines 0 text)
+
 -- what a text reads as, where the tables have so many entries
 unfoldable pub read_of : ℕ → ℕ → List ℕ → Result RuleBook Fault
 read_of marks ends text =
     if nat_lt MOST_TEXT_BYTES (length text)
     then (Err (fault_at TextTooLong MOST_TEXT_BYTES 0))
-    else (from_head marks ends (length text) (lines 0 text))
+    else (lines_read marks ends text)

@@ -3,7 +3,7 @@
 #![tactic(auto)]
 
 ghost use Rattle.std.specs.Prelude.{◌≡◌};
-ghost use Rattle.grammar.specs.Law.{ReadingIsTheFormat, WritingReadsBack};
+ghost use Rattle.grammar.specs.Law.{ReadingIsTheFormat, RefusingIsFirst, WritingReadsBack};
 
 /// How large a book is: its parts and its rules, as its head says.
 #[derive(Clone, Copy, Debug, PartialEq, Eq)]
@@ -30,12 +30,13 @@ pub struct RuleStart {
     pub end: usize,
 }
 
-/// The laws of reading and writing: see specs/Law.antt. It returns how many they are.
-#[tactic(auto, using(crate::proofs::Accepted::reading_is_the_format, crate::proofs::Back::writing_reads_back))]
+/// The laws of reading, refusing and writing: see specs/Law.antt. It returns how many they are.
+#[tactic(auto, using(crate::proofs::Accepted::reading_is_the_format, crate::proofs::FirstFaults::refusing_is_first, crate::proofs::Back::writing_reads_back))]
 pub fn laws_stand() -> usize
-    ensures count { result ≡ 2 }
+    ensures count { result ≡ 3 }
     ensures reading { ReadingIsTheFormat }
+    ensures refusing { RefusingIsFirst }
     ensures writing { WritingReadsBack }
 {
-    2
+    3
 }

@@ -1,9 +1,9 @@
 //! Reads a book's text into two tables: a first pass judges the text, a second fills the tables.
 #![tactic(auto)]
 
-ghost use Rattle.std.specs.Prelude.{◌≡◌, length, IfOk};
+ghost use Rattle.std.specs.Prelude.{◌≡◌, length, IfOk, IfErr};
 ghost use Rattle.book.specs.Tables.{mark_table, end_table};
-ghost use Rattle.grammar.specs.Law.{AcceptsTheFormat};
+ghost use Rattle.grammar.specs.Law.{AcceptsTheFormat, FaultIsFirst};
 ghost use Rattle.grammar.specs.Reading.{read_of};
 ghost use Rattle.reading.specs.Fills.{with_front};
 ghost use Rattle.reading.specs.Reads.{size_or_fault, rules_in, HasReadBook};
@@ -17,7 +17,7 @@ mod loading;
 use filling::fill;
 use grammar::Size;
 use head::Head;
-pub use loading::{LoadError, load};
+pub use loading::{LoadError, RefusedText, load, load_over, tables};
 use parts::limits::MOST_TEXT_BYTES;
 use parts::{Fault, Refusal};
 
@@ -25,7 +25,7 @@ use parts::{Fault, Refusal};
 /// It returns the book's size. A text that is no book, or for which the tables have no room, is
 /// refused at the first byte where a refusal (1 to 8) applies, and leaves both tables as they were;
 /// entries past those that are filled stay as they were too.
-#[tactic(auto, using(std::proofs::lemmas::Result::err_from_is_err_and, grammar::proofs::Accepted::reading_is_the_format, crate::proofs::ReadLaws::too_long, crate::proofs::ReadLaws::by_lines, crate::proofs::ReadLaws::rules_refused, crate::proofs::ReadLaws::rules_read))]
+#[tactic(auto, using(std::proofs::lemmas::Result::err_from_is_err_and, grammar::proofs::Accepted::reading_is_the_format, grammar::proofs::FirstFaults::refusing_is_first, crate::proofs::ReadLaws::too_long, crate::proofs::ReadLaws::by_lines, crate::proofs::ReadLaws::rules_refused, crate::proofs::ReadLaws::rules_read))]
 pub fn read(text: &[u8], marks: &mut [i16], ends: &mut [u16]) -> Result<Size, Fault>
     ensures reply { result ≡ size_or_fault (read_of (length marks.old) (length ends.old) text.now) }
     ensures marks { marks.new ≡ with_front
@@ -33,6 +33,7 @@ pub fn read(text: &[u8], marks: &mut [i16], ends: &mut [u16]) -> Result<Size, Fa
     ensures ends { ends.new ≡ with_front
         (end_table 0 (rules_in (read_of (length marks.old) (length ends.old) text.now))) ends.old }
     ensures format { AcceptsTheFormat (length marks.old) (length ends.old) text.now }
+    ensures faults { IfErr result (FaultIsFirst (length marks.old) (length ends.old) text.now) }
     ensures has_book { IfOk result
         (HasReadBook (read_of (length marks.old) (length ends.old) text.now) marks.new ends.new) }
 {

@@ -1,8 +1,9 @@
 //! Loads a book from its text, over tables that take any book of the format.
-ghost use Rattle.std.specs.Prelude.{◌≡◌, Some, Ok, MatchResult};
-ghost use Rattle.book.specs.Makes.{text_book};
+ghost use Rattle.std.specs.Prelude.{◌≡◌, length, Some, Ok, Err, IfOk, IfErr, MatchResult};
+ghost use Rattle.book.specs.Makes.{tables_of, text_book};
+ghost use Rattle.grammar.specs.Law.{FaultIsFirst};
 ghost use Rattle.grammar.specs.Reading.{read_of};
-ghost use Rattle.reading.specs.Loads.{IsNotLoaded, load_error_text};
+ghost use Rattle.reading.specs.Loads.{HasZeros, Filled, SameTables, FilledZeros, IsNotLoaded, load_error_text, read_in};
 ghost use Rattle.reading.specs.declared.loading.LoadError.TheVariants.{Faulty, NoMemory};
 
 use crate::read;
@@ -52,18 +53,65 @@ impl From<Fault> for LoadError {
     }
 }
 
-/// The book that the text stands for. A text is refused as `read` refuses it for tables that take
-/// any book of the format.
-pub fn load(heap: Global, text: &[u8]) -> Result<TextBook, LoadError>
-    ensures { MatchResult result
-        (λ b. read_of MOST_TEXT_MARKS MOST_TEXT_RULES text.now ≡ Ok (text_book b))
-        (IsNotLoaded text.now) }
+/// A text that was refused, and the tables that were to take its book, as they were.
+#[derive(Drop)]
+pub struct RefusedText {
+    pub fault: Fault,
+    pub back: Tables,
+}
+
+/// The two tables that take any book of the format, all zeros: the only call of a loading that asks
+/// for memory, and it sees no text.
+pub fn tables(heap: Global) -> Result<Tables, AllocError>
+    ensures { IfOk result HasZeros }
 {
-    let mut marks = vec![in heap; 0i16; MOST_TEXT_MARKS]?;
-    let mut ends = vec![in heap; 0u16; MOST_TEXT_RULES]?;
-    let size = read(text, &mut marks, &mut ends)?;
+    Ok(Tables {
+        marks: vec![in heap; 0i16; MOST_TEXT_MARKS]?,
+        ends: vec![in heap; 0u16; MOST_TEXT_RULES]?,
+    })
+}
+
+/// The book that the text stands for, over these tables. A text is refused as `read` refuses it for
+/// them, and they come back as they were; there is no other way out.
+pub fn load_over(tables: Tables, text: &[u8]) -> Result<TextBook, RefusedText>
+    ensures value { MatchResult result
+        (λ b. read_in tables text.now ≡ Ok (text_book b))
+        (λ e. read_in tables text.now ≡ Err e.fault) }
+    ensures tables { MatchResult result
+        (λ b. Filled (text_book b).rules tables (tables_of b)) (λ e. SameTables tables e.back) }
+    ensures faults { IfErr result (λ e. FaultIsFirst
+        (length tables.marks.items) (length tables.ends.items) text.now e.fault) }
+{
+    let Tables {
+        mut marks,
+        mut ends,
+    } = tables;
+    let size = match read(text, &mut marks, &mut ends) {
+        Ok(size) => size,
+        Err(fault) => {
+            return Err(RefusedText {
+                fault,
+                back: Tables { marks, ends },
+            })
+        }
+    };
     let Ok(book) = TextBook::new(size.n, size.m, Tables { marks, ends }) else {
         unreachable();
     };
     Ok(book)
+}
+
+/// The book that the text stands for, over tables of its own: memory can fail only before the text
+/// is looked at, where these are made, and the rest is `load_over`. A text is refused as `read`
+/// refuses it for tables that take any book of the format.
+pub fn load(heap: Global, text: &[u8]) -> Result<TextBook, LoadError>
+    ensures value { MatchResult result
+        (λ b. read_of MOST_TEXT_MARKS MOST_TEXT_RULES text.now ≡ Ok (text_book b))
+        (IsNotLoaded text.now) }
+    ensures tables { IfOk result (λ b. FilledZeros (text_book b).rules (tables_of b)) }
+{
+    match load_over(tables(heap)?, text) {
+        Ok(book) => Ok(book),
+        Err(refused) => Err(LoadError::Faulty(refused.fault)),
+    }
 }

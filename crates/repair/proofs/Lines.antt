@@ -1,7 +1,7 @@
 -- The lines of the parts that a row names, one by one.
 use Rattle.std.proofs.Common.{◌≡◌, ℕ, zero, suc, ◌+◌, ◌<◌, List, [], ◌∷◌, ◌++◌, length, map, drop, get_or, append_assoc, arith}
 use Rattle.std.proofs.lemmas.Grind.{common_steps}
-use Rattle.sheet.specs.declared.Name.{Name}
+use Rattle.sheet.specs.declared.name.Name.{Name}
 use Rattle.sheet.specs.Views.{name_of}
 use Rattle.repair.specs.Printing.{parts_text, part_text}
 

@@ -1,33 +1,45 @@
 -- How a repair is printed.
-use Rattle.std.specs.Prelude.{ℕ, ◌+◌, List, [], ◌∷◌, ◌++◌, None, Some, codes, decimal, slice_index, vec_items}
+use Rattle.std.specs.Prelude.{ℕ, ◌+◌, List, [], ◌∷◌, ◌++◌, None, Some, codes, decimal, Option, slice_index, vec_items}
 use Rattle.parts.specs.Codes.{side_of, side_text}
-use Rattle.search.specs.declared.Told.{Told}
-use Rattle.search.specs.declared.Told.TheVariants.{Fits, NoneFits, Spent}
-use Rattle.search.specs.Words.{told_text}
-use Rattle.grammar.specs.Pieces.{Piece}
-use Rattle.sheet.specs.Views.{said_of}
-use Rattle.repair.specs.declared.Repair.{Repair}
+use Rattle.parts.specs.declared.side.Side.{Side}
+use Rattle.search.specs.declared.report.Answer.{Answer}
+use Rattle.search.specs.declared.report.Answer.TheVariants.{Fits, NoneFits, Spent}
+use Rattle.search.specs.declared.report.Report.{Report}
+use Rattle.search.specs.Words.{answer_text}
+use Rattle.text.specs.Pieces.{Piece}
+use Rattle.repair.specs.declared.repair.Repair.{Repair}
 
 -- what begins the line of a part that the row names; a spent search names none
-abbrev pub word_text : Told → List ℕ
+abbrev pub word_text : Answer → List ℕ
 word_text Fits = codes "part"
 word_text NoneFits = codes "held"
 word_text Spent = codes "held"
 
--- word, number, side and name, parted by one tab each (9) and ended by a line feed (10); no line for a part with code 0
+-- word, number, side and name, with one tab (9) between them and a line feed (10) at the end
+abbrev pub side_line : List ℕ → ℕ → List ℕ → Side → List ℕ
+side_line word part name side = word ++ (9 ∷ decimal part ++ (9 ∷ side_text side ++ (9 ∷ name ++ 10 ∷ [])))
+
+-- the line of a part with this code; none for code 0
+abbrev pub line_by : List ℕ → ℕ → List ℕ → Option Side → List ℕ
+line_by word part name None = []
+line_by word part name (Some side) = side_line word part name side
+
 abbrev pub part_text : List ℕ → ℕ → ℕ → List ℕ → List ℕ
-part_text word part code name =
-    elim (side_of code) [
-      | None ↦ []
-      | Some side ↦ word ++ (9 ∷ decimal part ++ (9 ∷ side_text side ++ (9 ∷ name ++ 10 ∷ [])))
-    ]
+part_text word part code name = line_by word part name (side_of code)
 
 -- the names from an index on, with the row's codes
 abbrev pub parts_text : List ℕ → List ℕ → ℕ → List Piece → List ℕ
 parts_text word row i [] = []
-parts_text word row i (name ∷ names) = part_text word (i + 1) (slice_index row i) name.bytes ++ parts_text word row (i + 1) names
+parts_text word row i (name ∷ names) =
+    part_text word (i + 1) (slice_index row i) name.bytes ++ parts_text word row (i + 1) names
 
--- verdict, steps and turns, a line each; then the parts of a choice that fits, or the holds that leave none, by rising part
+-- verdict, steps and turns, a line each
+abbrev pub report_text : Report → List ℕ
+report_text r =
+    codes "verdict\t" ++ (answer_text r.answer ++ (codes "\nsteps\t" ++ (decimal r.steps ++ (codes "\nturns\t" ++ (decimal r.turns ++ codes "\n")))))
+
+-- then the parts of a choice that fits, or the holds that leave none, by rising part
 abbrev pub repair_text : Repair → List ℕ
 repair_text r =
-    codes "verdict" ++ (9 ∷ told_text r.found.report.told ++ (10 ∷ codes "steps" ++ (9 ∷ decimal r.found.report.steps ++ (10 ∷ codes "turns" ++ (9 ∷ decimal r.found.report.turns ++ (10 ∷ parts_text (word_text r.found.report.told) (vec_items r.found.row) 0 (said_of r.sheet).names))))))
+    report_text r.solution.report
+    ++ parts_text (word_text r.solution.report.answer) (vec_items r.solution.row) 0 r.sheet.names

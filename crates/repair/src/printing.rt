@@ -1,4 +1,4 @@
-// How a repair is printed.
+//! How a repair is printed.
 ghost use Rattle.std.specs.Prelude.{◌≡◌, Some, map};
 ghost use Rattle.std.specs.Fmt.{DisplaysOnOk};
 ghost use Rattle.sheet.specs.Views.{name_of};
@@ -6,21 +6,27 @@ ghost use Rattle.repair.specs.Printing.{repair_text, part_text, parts_text, word
 
 use crate::Repair;
 use parts::Side;
-use search::Told;
+use search::Answer;
 use sheet::Name;
 use std::{fmt, str};
 
+/// Verdict, steps and turns, a line each; then a line for each part that the row names.
 impl fmt::Display for Repair<'_> {
     ghost output = { λ repair. Some (repair_text repair) };
 
     fn fmt<W: fmt::Write>(&self, f: &mut fmt::Formatter<W>) -> fmt::Result {
-        let report = self.found.report;
+        let report = self.solution.report;
         write!(
             f,
             "verdict\t{}\nsteps\t{}\nturns\t{}\n",
-            report.told, report.steps, report.turns
+            report.answer, report.steps, report.turns
         )?;
-        print_parts(f, word(report.told), &self.found.row, self.sheet.names())
+        print_parts(
+            f,
+            word(report.answer),
+            &self.solution.row,
+            self.sheet.names(),
+        )
     }
 }
 
@@ -61,11 +67,11 @@ fn print_part<W: fmt::Write>(
 }
 
 // What begins the line of a part.
-fn word(told: Told) -> &'static str
-    ensures { result.now ≡ word_text told }
+fn word(answer: Answer) -> &'static str
+    ensures { result.now ≡ word_text answer }
 {
-    match told {
-        Told::Fits => "part",
-        Told::NoneFits | Told::Spent => "held",
+    match answer {
+        Answer::Fits => "part",
+        Answer::NoneFits | Answer::Spent => "held",
     }
 }

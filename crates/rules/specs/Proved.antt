@@ -8,13 +8,14 @@ use Rattle.parts.specs.Distinct.{names, is_distinct}
 use Rattle.parts.specs.Rows.{marks_from, row_marks}
 use Rattle.book.specs.Meaning as books
 use Rattle.book.specs.Meaning.{Rule, RuleBook, sound_rules}
+use Rattle.book.specs.Proved.{rule_distinct}
 use Rattle.shelf.specs.Meaning as shelves
 use Rattle.shelf.specs.Meaning.{Shelved, sound_place}
 use Rattle.rules.specs.Listing.{SoundList, sound_if_there, book_list, shelf_list}
 
 book_rules : (n : ℕ) (rs : List Rule) (i : ℕ) → sound_rules n rs ≡ true → sound_if_there n (slice_index_or (map Some rs) i None) ≡ true
 book_rules n [] i s = grind arith
-book_rules n (r ∷ rs) zero s = grind arith
+book_rules n (r ∷ rs) zero s = grind (arith, rule_distinct n r)
 book_rules n (r ∷ rs) (suc i) s = grind (arith, book_rules n rs i)
 
 pub book_list_sound : (b : RuleBook) → books.Sound b → SoundList (book_list b)

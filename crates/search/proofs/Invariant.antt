@@ -56,11 +56,11 @@ worth n (e ∷ t) = worth n t + weight e.kind (2 ^ (n - suc (length t)))
 abbrev pub Final : Bench → ℕ → ℕ → Type 0
 Final b turns steps = (turns ≤ most_turns b.book.n) × (steps ≤ most_steps b.book.n)
 
--- what is kept of the counts and the verdict
+-- what is kept of the counts and the verdict; after "none fits" nothing is settled
 abbrev pub Counts : Bench → Machine → Verdict → Type 0
 Counts b m working = (m.turns ≤ worth b.book.n m.trail) × (m.steps ≤ m.turns * (b.book.n + 1) + length m.trail)
 Counts b m fits = Final b m.turns m.steps × Stands b m fits
-Counts b m (none_fits r) = Final b m.turns m.steps × Stands b m (none_fits r)
+Counts b m (none_fits r) = Final b m.turns m.steps × Stands b m (none_fits r) × (m.trail ≡ [])
 
 -- THE INVARIANT: what book, picker and shelf mean, holds, rules, trail, counts and verdict
 pub record Inv (b : Bench) (m : Machine) : Type 0 where

@@ -1,5 +1,5 @@
 -- What holds at each of the six cases of a step.
-use Rattle.std.proofs.Common.{◌≡◌, ℕ, suc, ◌≤◌, Bool, true, false, ◌≢◌, ◌⊎◌, List, [], ◌∷◌, map, length, replicate, Some, None, Option, sym, refl, subst, inl, inr, le_trans, arith}
+use Rattle.std.proofs.Common.{◌≡◌, ℕ, suc, ◌≤◌, Bool, true, false, ◌≢◌, ◌⊎◌, List, [], ◌∷◌, map, length, replicate, Some, None, Option, refl, subst, inl, inr, le_trans, arith}
 use Rattle.std.specs.List.{find, range_with_len}
 use Rattle.std.specs.Option.{option_and_then}
 use Rattle.std.proofs.lemmas.Bool.{cases_eq}
@@ -20,8 +20,9 @@ use Rattle.search.specs.declared.entry.Kind.TheVariants.{Forced}
 use Rattle.search.specs.declared.reason.Reason.{Reason}
 use Rattle.search.specs.declared.reason.Reason.TheVariants.{Book, Shelf}
 use Rattle.search.specs.Trail.{Trail, settled, row, reason_in, reason_of, truth, says_false, says_open, State, broken, pressing, quiet, enter}
-use Rattle.search.specs.Machine.{Bench, Places, Machine, rule_at, state_of, reasons, is_broken, is_pressing, press_by}
-use Rattle.search.specs.Machine.{Move, turn_on, force, settle, fit, ask, choose, look, turn, marks_at}
+use Rattle.search.specs.Machine.{Bench, Places, Machine, rule_at, state_of, reasons, is_broken, is_pressing, press_by, worked}
+use Rattle.search.specs.Machine.{Move, turn_on, force, settle, fit, ask, choose, look, turn}
+use Rattle.search.specs.Law.{NoMarkLost}
 use Rattle.search.proofs.Basics.{twice_opposite, among_range, find_some, find_none, place_within, among_place}
 use Rattle.search.proofs.Rows.{Names, Within, not_names, enter_length, enter_codes, enter_comes, enter_from, empty_row, empty_codes}
 use Rattle.search.proofs.Invariant.{Failed, Ranged, Kept, Why, Sound}
@@ -29,14 +30,29 @@ use Rattle.search.proofs.Settled.{row_settled, within}
 use Rattle.search.proofs.Turn.{top, top_falls, sound_length, Good, Fine, Ends, turn_ok}
 use Rattle.search.proofs.States.{truth_shows, Says, state_says}
 
+-- a rule that names no two opposite marks
+abbrev pub Apart : Rule → Type 0
+Apart R = (y : Mark) → Among y R → Among (opposite_of y) R → ⊥
+
 -- an entry whose opposite is not in the working rule is passed
 turn_pass : (at : Reason → Option Rule) (c : Row) (e : Entry) (t : Trail) → names_mark c (opposite_of e.mark) ≡ false → turn at c (e ∷ t) ≡ turn at c t
 unfolding turn
 turn_pass at c e t h = grind arith
 
+-- and so no mark is lost on it
+pass_keeps : (at : Reason → Option Rule) (c : Row) (e : Entry) (t : Trail) (v : Bool) → v ≡ false → NoMarkLost at c t → NoMarkLost at (worked v e.kind e.mark.part c at) t
+pass_keeps at c e t true h k = absurd (cc)
+pass_keeps at c e t false h k = k
+
 module _ (n : ℕ) (Ob : Choice → Type 0) (hs : Rule) (at : Reason → Option Rule) where
+  passed : (w : ℕ) (c : Row) (e : Entry) (t : Trail) → names_mark c (opposite_of e.mark) ≡ false
+      → Ends n Ob hs at w (turn at c t) × NoMarkLost at c t → Ends n Ob hs at w (turn at c (e ∷ t)) × NoMarkLost at c (e ∷ t)
+  unfolding NoMarkLost
+  passed w c e t h (ends, kept) =
+      (rw (turn_pass at c e t h) ends, (λ r k named. absurd (cc), λ no. pass_keeps at c e t (names_mark c (opposite_of e.mark)) h kept))
+
   -- a part that is settled against its hold was forced
-  crossed_reason : is_distinct n hs ≡ true → (t : Trail) → Sound n hs at t → (h : Mark) → Among h hs → Failed t h → reason_of t h.part ≢ None
+  pub crossed_reason : is_distinct n hs ≡ true → (t : Trail) → Sound n hs at t → (h : Mark) → Among h hs → Failed t h → reason_of t h.part ≢ None
   unfolding settled reason_of
   crossed_reason dis [] s h i f = grind arith
   crossed_reason dis (e ∷ t) s h i f = grind (arith, distinct_once n hs e.mark h, crossed_reason dis t s.3 h i)
@@ -59,8 +75,8 @@ module _ (n : ℕ) (Ob : Choice → Type 0) (hs : Rule) (at : Reason → Option 
   cross_turn : ((r : Reason) (R : Rule) → at r ≡ Some R → Good n Ob hs at R) → (R : Rule) (c : Row) → ((y : Mark) → Names c y → Among y R) → Fine n Ob hs at c
       → (r : Reason) (x : Mark) → at r ≡ Some R → Among (opposite_of x) hs
       → (t : Trail) (w : ℕ) → w ≤ top n t → Sound n hs at t → reason_of t x.part ≡ Some r → settled t x.part ≡ Some x.side
-      → Ends n Ob hs at w (turn at c t)
-  unfolding settled reason_of
+      → Ends n Ob hs at w (turn at c t) × NoMarkLost at c t
+  unfolding settled reason_of NoMarkLost
   cross_turn ok R c sub fine r x is held_x [] w l s h v = grind arith
   cross_turn ok R c sub fine r x is held_x (e ∷ t) w l s h v =
       let l' = le_trans l (top_falls n e t (sound_length n hs at (e ∷ t) s)) in
@@ -68,11 +84,11 @@ module _ (n : ℕ) (Ob : Choice → Type 0) (hs : Rule) (at : Reason → Option 
         | inl q ↦
             let (Q, isQ, others) = why_facts e.kind e.mark t r s.2 (grind arith) in
             let gone = not_names c (opposite_of e.mark) (λ i. grind (arith, sub (opposite_of e.mark) i, others (opposite_of e.mark))) in
-            rw (turn_pass at c e t gone) (turn_ok n Ob hs at ok c t w l' s.3 (λ y i. grind (arith, sub y i, others y)) fine)
+            passed w c e t gone (turn_ok n Ob hs at ok c t w l' s.3 (λ y i. grind (arith, sub y i, others y)) fine)
         | inr ne ↦
             let (Q, isQ, others, lone) = reason_facts t s.3 x r (grind arith) (grind arith) in
             let gone = not_names c (opposite_of e.mark) (λ i. grind (arith, sub (opposite_of e.mark) i, others (opposite_of e.mark))) in
-            rw (turn_pass at c e t gone) (cross_turn ok R c sub fine r x is held_x t w l' s.3 (grind arith) (grind arith))
+            passed w c e t gone (cross_turn ok R c sub fine r x is held_x t w l' s.3 (grind arith) (grind arith))
       ]
 
   -- the working rule at the start of a turn
@@ -86,7 +102,7 @@ module _ (n : ℕ) (Ob : Choice → Type 0) (hs : Rule) (at : Reason → Option 
   unfolding start
   start_names R range y h = grind (arith, enter_from (replicate n 0) R y (wide R range) h, empty_row n y)
 
-  start_fine : (R : Rule) → Good n Ob hs at R → ((y : Mark) → Among y R → Among (opposite_of y) R → ⊥) → Fine n Ob hs at (start R)
+  start_fine : (R : Rule) → Good n Ob hs at R → Apart R → Fine n Ob hs at (start R)
   unfolding start
   start_fine R (fol, range) apart = (
     λ f ob. let (y, i, ty) = fol f ob in (y, enter_comes (replicate n 0) R y (wide R range) i (apart y i), ty),
@@ -130,7 +146,7 @@ module _ (b : Bench) (m : Machine) where
 
   -- what holds where a step does this
   abbrev pub Looked : Move → Type 0
-  Looked (turn_on r) = Ends n Ob hs at_of (top n t) (turn at_of (enter (replicate n 0) (marks_at (at_of r))) t)
+  Looked (turn_on r) = (R : Rule) × (at_of r ≡ Some R) × Apart R × (Ends n Ob hs at_of (top n t) (turn at_of (enter (replicate n 0) R) t) × NoMarkLost at_of (enter (replicate n 0) R) t)
   Looked (force p) =
       (settled t p.mark.part ≡ None)
       × ((1 ≤ p.mark.part) × (p.mark.part ≤ n))
@@ -168,21 +184,15 @@ module _ (b : Bench) (m : Machine) where
         let says : Says t R quiet = grind (arith, state_says n t R range, find_none (λ r. is_broken (st r)) all ea (Book i) here, find_none (λ r. is_pressing (st r)) all ep (Book i) here) in
         says (λ y k. grind (arith, range y k, row_settled n t y.part ev))
 
-    -- what a turn from a rule ends in
-    abbrev EndsFrom : Option Rule → Type 0
-    EndsFrom o = Ends n Ob hs at_of (top n t) (turn at_of (enter (replicate n 0) (marks_at o)) t)
-
     -- a turn on a broken rule
     on_broken : (r : Reason) → st r ≡ broken → Looked (turn_on r)
     unfolding start
     on_broken r h =
         let (R, is, says) = at_state n t (at_of r) broken (λ R is. (ok r R is).1) h (λ q. grind arith) in
         let g = ok r R is in
-        let fine = start_fine n Ob hs at_of R g (λ y i j. grind (arith, says y i, says (opposite_of y) j)) in
-        subst EndsFrom (sym is)
-        (turn_ok n Ob hs at_of ok (enter (replicate n 0) R) t (top n t) (omega arith) sound
-        (λ y i. inl (says y (start_names n Ob hs at_of R g.1 y i)))
-        fine)
+        let apart : Apart R = λ y i j. grind (arith, says y i, says (opposite_of y) j) in
+        let fine = start_fine n Ob hs at_of R g apart in
+        (R, is, apart, turn_ok n Ob hs at_of ok (enter (replicate n 0) R) t (top n t) (omega arith) sound (λ y i. inl (says y (start_names n Ob hs at_of R g.1 y i))) fine)
 
     -- a turn on the reason of a part that is settled against its hold
     on_crossed : (r : Reason) (h : Mark) → Among h hs → Failed t h → reason_of t h.part ≡ Some r → Looked (turn_on r)
@@ -191,10 +201,14 @@ module _ (b : Bench) (m : Machine) where
         let x : Mark = opposite_of h in
         let (R, is, others, lone) = reason_facts n Ob hs at_of t sound x r q f in
         let g = ok r R is in
-        let fine = start_fine n Ob hs at_of R g (λ y i j. grind (arith, others y i, others (opposite_of y) j, twice_opposite)) in
-        subst EndsFrom (sym is)
-        (cross_turn n Ob hs at_of ok R (enter (replicate n 0) R) (start_names n Ob hs at_of R g.1) fine r x is
-        (subst (λ z. Among z hs) (twice_opposite h x refl) i) t (top n t) (omega arith) sound q f)
+        let apart : Apart R = λ y i j. grind (arith, others y i, others (opposite_of y) j, twice_opposite) in
+        let fine = start_fine n Ob hs at_of R g apart in (
+          R,
+          is,
+          apart,
+          cross_turn n Ob hs at_of ok R (enter (replicate n 0) R) (start_names n Ob hs at_of R g.1) fine r x is
+              (subst (λ z. Among z hs) (twice_opposite h x refl) i) t (top n t) (omega arith) sound q f,
+        )
 
     -- a pressing rule's open mark is forced
     on_pressing : (r : Reason) (s : State) → st r ≡ s → is_pressing s ≡ true → (c : Option Reason) (h : Option Mark) (v : Bool) → Looked (choose None (press_by r s) c h v)

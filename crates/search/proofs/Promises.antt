@@ -1,37 +1,45 @@
 -- What the invariant promises of a state and of a run, and the promises after every list of calls.
-use Rattle.std.proofs.Common.{◌≡◌, ℕ, zero, suc, ◌+◌, ◌<◌, ◌≤◌, true, false, List, [], ◌∷◌, ◌++◌, length, replicate, Some, None, Option, refl, inl, inr, arith}
+use Rattle.std.proofs.Common.{◌≡◌, ℕ, zero, suc, ◌+◌, ◌<◌, ◌≤◌, true, false, ◌≢◌, List, [], ◌∷◌, ◌++◌, length, replicate, Some, None, Option, refl, inl, inr, arith, subst}
 use Rattle.std.specs.List.{list_all}
 use Rattle.std.proofs.lemmas.Grind.{common_steps}
 use Rattle.std.proofs.lemmas.Option.{gets}
-use Rattle.std.proofs.lemmas.Bool.{cases_Bool}
+use Rattle.std.proofs.lemmas.Bool.{cases_Bool, cases_eq}
 use Rattle.std.proofs.lemmas.Bool.Decides.{nat_tests}
 use Rattle.std.proofs.lemmas.List.{length-replicate}
 use Rattle.parts.specs.Codes.{is_row, side_of}
 use Rattle.parts.specs.Distinct.{is_distinct, is_part, names}
 use Rattle.parts.specs.Lists.{at_place}
+use Rattle.parts.specs.Marks.{opposite_of}
 use Rattle.parts.specs.Rows.{Row, row_marks}
 use Rattle.parts.specs.declared.mark.Mark.{Mark}
 use Rattle.parts.specs.declared.refusal.Refusal.{Refusal}
 use Rattle.parts.specs.declared.side.Side.{Side}
-use Rattle.parts.proofs.Among.{all_among, any_among, among_any}
-use Rattle.parts.proofs.DistinctLaws.{is_distinct_push, released_distinct}
+use Rattle.parts.proofs.Among.{all_among, any_among, among_any, contains_among}
+use Rattle.parts.proofs.DistinctLaws.{distinct_member, is_distinct_push, released_distinct}
 use Rattle.book.specs.Choices.{Takes, Meets, Obeys}
 use Rattle.book.specs.Meaning.{Rule}
-use Rattle.picker.specs.Meaning.{Picks}
+use Rattle.picker.specs.Meaning as pickers
+use Rattle.picker.specs.Meaning.{Picks, is_answered}
 use Rattle.shelf.specs.Meaning as shelves
 use Rattle.shelf.specs.Meaning.{Shelved, sound_place}
+use Rattle.search.specs.declared.entry.Kind.{Kind}
+use Rattle.search.specs.declared.entry.Kind.TheVariants.{Held, Picked, Forced}
 use Rattle.search.specs.declared.reason.Reason.{Reason}
 use Rattle.search.specs.declared.reason.Reason.TheVariants.{Book, Shelf}
 use Rattle.search.specs.Bounds.{most_turns, most_steps}
+use Rattle.search.specs.Trail.{Trail, row, reason_in, reason_of}
+use Rattle.search.specs.Machine.{Press, turn_on, force, settle, ask, stop, none_fits}
 use Rattle.search.specs.Machine.{Bench, Machine, lesson, rule_at, Move, look, pushed, turned, fitted, asked, act, step, stands, run, Verdict, working}
 use Rattle.search.specs.Calls.{emptied, opened, restarted, Call, hold, release, run_for, refuses, held_on, accepted, call, calls}
-use Rattle.search.specs.Law.{Lawful, LessonsFollow, Fresh, Stands, counted, budgets, Promised, is_run, SearchKeepsItsPromises, FreshStarts, CallsLeaveTheRest}
+use Rattle.search.specs.Law.{Lawful, LessonsFollow, Fresh, Stands, counted, budgets, Promised, is_run, IsOpenPart, PickerAnswers, LessonFits, TurnIsWhole, NothingHidden, NothingIsHidden, SearchKeepsItsPromises, FreshStarts, CallsLeaveTheRest}
 use Rattle.search.proofs.Basics.{place_among, all_pass}
 use Rattle.search.proofs.Rows.{names_within, marks_among}
-use Rattle.search.proofs.Invariant.{Ranged, Follows, worth, Inv, Final, Counts}
-use Rattle.search.proofs.Settled.{within}
+use Rattle.search.proofs.Invariant.{Ranged, Follows, Why, Sound, worth, Inv, Final, Counts}
+use Rattle.search.proofs.Settled.{within, answer_some, answer_open}
+use Rattle.search.proofs.Places.{next_place_free}
+use Rattle.search.proofs.Look.{at_of, Looked, look_ok, crossed_reason}
 use Rattle.search.proofs.Step.{step_ok, worth_below, final_steps}
-use Rattle.search.proofs.Turn.{sound_length}
+use Rattle.search.proofs.Turn.{top, sound_length, Ends}
 
 -- The invariant from call to call: a fresh state has it, and every call keeps it.
 -- a lesson is over the parts of its row
@@ -222,3 +230,82 @@ run_stood_same b m (suc k) e = grind arith
 pub calls_leave_the_rest : CallsLeaveTheRest
 unfolding call accepted restarted
 calls_leave_the_rest b m c = record { refused = refused_same b m c; lessons = λ e. grind arith; stands = λ r e. grind (arith, run_stood_same b m) }
+
+-- No branch that stands for what cannot be is ever taken.
+module _ {b : Bench} {m : Machine} (inv : Inv b m) where
+  -- each reason on a trail is a rule that is there
+  reason_there : (n : ℕ) (hs : List Mark) (at : Reason → Option Rule) (t : Trail) → Sound n hs at t → (p : ℕ) (r : Reason) → reason_of t p ≡ Some r
+      → (R : Rule) × (at r ≡ Some R)
+  unfolding reason_of
+  reason_there n hs at [] s p r h = absurd (grind arith)
+  reason_there n hs at (e ∷ t) s p r h =
+      elim (cases_eq e.mark.part p) [
+        | inl q ↦ why_rule e.kind s.2 (grind arith)
+        | inr ne ↦ reason_there n hs at t s.3 p r (grind arith)
+      ]
+    where
+      why_rule : (k : Kind) → Why hs at k e.mark t → reason_in k ≡ Some r → (R : Rule) × (at r ≡ Some R)
+      why_rule Held w is = absurd (grind arith)
+      why_rule Picked w is = absurd (grind arith)
+      why_rule (Forced q) (R, there, own, others) is = (R, cc)
+
+  some_reason : (o : Option Reason) → o ≢ None → (r : Reason) × (o ≡ Some r)
+  some_reason None n = absurd (n refl)
+  some_reason (Some r) n = (r, refl)
+
+  module _ (w : m.verdict ≡ working) where
+    looked : Looked b m (look b m)
+    looked = look_ok b m inv.lawful.book inv.holds inv.good inv.sound
+
+    asked_open : look b m ≡ ask → (x : Mark) × PickerAnswers b m x
+    asked_open e =
+        let l : Looked b m ask = subst (Looked b m) e looked in
+        let yes : is_answered m.picker.n (row b.book.n m.trail) ≡ true = rw inv.lawful.same_picker (answer_some b.book.n m.trail l.1) in
+        let x : Mark = m.picker.choose (row b.book.n m.trail) in
+        let f : pickers.Free b.book.n (row b.book.n m.trail) x.part = rw inv.lawful.same_picker at (inv.lawful.picker.frees (row b.book.n m.trail) yes) in
+        (x, record { answer = rw yes refl; free = record { first = f.first; last = f.last; vacant = answer_open b.book.n m.trail x.part f } })
+
+    fits_there : (x : Mark) (c : Row) (t : Trail) → Ends b.book.n (Obeys b.book.rules) m.holds (at_of b m) (top b.book.n m.trail) (stop x c t) → (i : ℕ) × LessonFits b m x c t i
+    fits_there x c t e =
+        let below = sound_length b.book.n m.holds (at_of b m) (record { mark = x; kind = Picked } ∷ t) (e.vacant, e.range, e.kept, e.sound) in
+        let (i, is, free) = next_place_free b.book.n m.holds b.book.rules m.shelf.rows m.last t e.sound below (omega (arith, inv.lawful.shelf.enough, inv.lawful.same_shelf)) inv.last in
+        (i, record { place = is; write = grind (arith, nat_tests, inv.lawful.same_shelf); opposite = record { first = e.range.0; last = e.range.1; vacant = e.vacant } })
+
+    turn_whole : (r : Reason) → look b m ≡ turn_on r → (R : Rule) × TurnIsWhole b m r R
+    turn_whole r e =
+        let (R, is, apart, (ends, kept)) : Looked b m (turn_on r) = subst (Looked b m) e looked in
+        (R, record { rule = is; apart = λ y i j. apart y (contains_among R y i) (contains_among R (opposite_of y) j); marks = kept; stops = λ x c t q. fits_there x c t (subst (Ends b.book.n (Obeys b.book.rules) m.holds (at_of b m) (top b.book.n m.trail)) q ends) })
+
+    force_open : (p : Press) → look b m ≡ force p → IsOpenPart b m.trail p.mark.part
+    force_open p e = let l : Looked b m (force p) = subst (Looked b m) e looked in record { first = l.1.0; last = l.1.1; vacant = l.0 }
+
+    settle_open : (h : Mark) → look b m ≡ settle h → IsOpenPart b m.trail h.part
+    settle_open h e =
+        let l : Looked b m (settle h) = subst (Looked b m) e looked in
+        let d = distinct_member b.book.n m.holds h inv.holds l.0 in
+        record { first = d.0; last = d.1; vacant = l.1 }
+
+  bottom_empty : (r : Row) → m.verdict ≡ none_fits r → m.trail ≡ []
+  bottom_empty r e = let c : Counts b m (none_fits r) = subst (Counts b m) e inv.counts in c.2
+
+  pub inv_hidden : NothingHidden b m
+  inv_hidden = record {
+    bottom = bottom_empty;
+    holds = inv.holds;
+    last = inv.last;
+    parts = λ r R is y i. (inv.good r R is).1 y (contains_among R y i);
+    reasons = reason_there b.book.n m.holds (at_of b m) m.trail inv.sound;
+    crossed = λ h i f.
+        some_reason (reason_of m.trail h.part)
+        (crossed_reason b.book.n (Obeys b.book.rules) m.holds (at_of b m) inv.holds m.trail inv.sound h (contains_among m.holds h i) f);
+    ask = asked_open;
+    turn_on = λ r w e. turn_whole w r e;
+    force = λ p w e. force_open w p e;
+    settle = λ h w e. settle_open w h e;
+  }
+
+pub hidden_none : {b : Bench} {m : Machine} → Fresh b m → (cs : List Call) → NothingHidden b (calls b cs m)
+hidden_none f cs = inv_hidden (calls_inv (fresh_inv f) cs)
+
+pub nothing_is_hidden : NothingIsHidden
+nothing_is_hidden b m cs f = hidden_none f cs

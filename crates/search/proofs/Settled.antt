@@ -13,6 +13,7 @@ use Rattle.parts.proofs.RowWords.{none_open}
 use Rattle.book.specs.Choices.{shown}
 use Rattle.book.specs.Meaning as books
 use Rattle.book.specs.Meaning.{Rule, sound_rule}
+use Rattle.book.specs.Proved.{rule_distinct}
 use Rattle.picker.specs.Meaning as pickers
 use Rattle.picker.specs.Meaning.{is_answered}
 use Rattle.search.specs.Trail.{Trail, settled, code, row}
@@ -57,7 +58,7 @@ shown_settled n t p s a b h = grind (arith, place_row n t p)
 
 -- the rules of a lawful bench are over its parts
 pub within : (b : Bench) → books.Sound b.book → (r : Rule) → Among r b.book.rules → Ranged b.book.n r
-within b law r i y = distinct_member b.book.n r y (all_pass (sound_rule b.book.n) b.book.rules law.rules_sound r i)
+within b law r i y = distinct_member b.book.n r y (rule_distinct b.book.n r (all_pass (sound_rule b.book.n) b.book.rules law.rules_sound r i))
 
 -- a picker of n parts has an answer for a settled row with an open part, and picks an open one
 pub answer_some : (n : ℕ) (t : Trail) → is_full (row n t) ≡ false → is_answered n (row n t) ≡ true

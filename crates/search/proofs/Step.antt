@@ -172,7 +172,7 @@ module _ (b : Bench) (m : Machine) (inv : Inv b m) (w : m.verdict ≡ working) w
   -- each of the moves
   act_ok : (v : Move) → Looked b m v → Inv b (act b m v)
   unfolding act asked
-  act_ok (turn_on r) l = turned_ok _ l
+  act_ok (turn_on r) (R, is, apart, l) = rw is (turned_ok _ l.0)
   act_ok (force p) l = push_ok p.mark (Forced p.by) l.0 l.1 l.2
   act_ok (settle h) l = push_ok h Held l.1 (distinct_member n hs h inv.holds l.0) l.0
   act_ok fit l = fit_ok l

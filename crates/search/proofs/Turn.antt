@@ -5,7 +5,7 @@ use Rattle.parts.specs.Codes.{all_codes}
 use Rattle.parts.specs.Marks.{opposite_of}
 use Rattle.parts.specs.Rows.{Row, names_mark}
 use Rattle.parts.specs.declared.mark.Mark.{Mark}
-use Rattle.parts.proofs.Among.{Among}
+use Rattle.parts.proofs.Among.{Among, contains_among}
 use Rattle.parts.proofs.Tally.{tally, tally_none, tally_le, tally_more}
 use Rattle.book.specs.Choices.{Choice, Takes}
 use Rattle.book.specs.Meaning.{Rule}
@@ -16,7 +16,8 @@ use Rattle.search.specs.declared.reason.Reason.{Reason}
 use Rattle.search.specs.Trail.{Trail, settled, enter, leave}
 use Rattle.search.specs.Machine.{resolve, worked, is_picked, Outcome, bottom, stop, turn}
 use Rattle.search.proofs.Basics.{twice_opposite}
-use Rattle.search.proofs.Rows.{Names, Within, names_true, true_names, enter_length, enter_codes, enter_stays, enter_comes, enter_from, leave_length, leave_codes, leave_from, leave_stays}
+use Rattle.search.specs.Law.{Agrees, NoMarkLost}
+use Rattle.search.proofs.Rows.{Names, Within, names_true, not_names, true_names, enter_length, enter_codes, enter_stays, enter_comes, enter_from, leave_length, leave_codes, leave_from, leave_stays}
 use Rattle.search.proofs.Invariant.{Failed, Ranged, Follows, Kept, Why, Sound, worth}
 
 -- every choice that obeys meets a mark that the row names
@@ -127,17 +128,32 @@ module _ (n : ℕ) (Ob : Choice → Type 0) (hs : Rule) (at : Reason → Option 
   worked_ok true Picked x c t hv hq ok range op why cov g = grind arith
   worked_ok true (Forced r) x c t hv hq ok range op (R, is, own, others) cov g = rw is (resolved r x c t R (ok r R is) range op others cov g)
 
-  -- and so the turn ends well
-  pub turn_ok : ((r : Reason) (R : Rule) → at r ≡ Some R → Good R) → (c : Row) (t : Trail) (w : ℕ) → w ≤ top n t → Sound n hs at t → Covered t c → Fine c → Ends w (turn at c t)
-  unfolding turn settled
-  turn_ok ok c [] w l s cov g = (g.0, λ y i. grind (arith, cov y i))
+  -- no other mark of the reason has its opposite in the working rule
+  agrees : (x : Mark) (k : Kind) (c : Row) (t : Trail) (R : Rule) → settled t x.part ≡ None → ((y : Mark) → Among y R → (y ≡ x) ⊎ Failed t y)
+      → Covered (record { mark = x; kind = k } ∷ t) c → Agrees c x.part R
+  unfolding settled
+  agrees x k c t R op others cov y i ne = not_names c (opposite_of y) (λ j. grind (arith, cov (opposite_of y) j, others y (contains_among R y i)))
+
+  resolved_agrees : (v : Bool) (k : Kind) (x : Mark) (c : Row) (t : Trail) → settled t x.part ≡ None → Why hs at k x t → Covered (record { mark = x; kind = k } ∷ t) c
+      → (r : Reason) → k ≡ Forced r → v ≡ true → (R : Rule) × (at r ≡ Some R) × Agrees c x.part R
+  resolved_agrees v Held x c t op why cov r e h = absurd (cc)
+  resolved_agrees v Picked x c t op why cov r e h = absurd (cc)
+  resolved_agrees v (Forced q) x c t op (R, is, own, others) cov r e h = (R, cc, agrees x (Forced q) c t R op others cov)
+
+  -- and so the turn ends well, and no mark is lost
+  pub turn_ok : ((r : Reason) (R : Rule) → at r ≡ Some R → Good R) → (c : Row) (t : Trail) (w : ℕ) → w ≤ top n t → Sound n hs at t → Covered t c → Fine c
+      → Ends w (turn at c t) × NoMarkLost at c t
+  unfolding turn settled NoMarkLost
+  turn_ok ok c [] w l s cov g = ((g.0, λ y i. grind (arith, cov y i)), tt)
   turn_ok ok c (e ∷ t) w l s cov g =
+      let lost = resolved_agrees (names_mark c (opposite_of e.mark)) e.kind e.mark c t s.0 s.2 cov in
       elim (cases_Bool (is_picked e.kind && names_mark c (opposite_of e.mark))) [
         | inl q ↦
             let kept : Kept hs t = grind arith in
             let others : ((y : Mark) → Names c y → (y ≡ opposite_of e.mark) ⊎ Failed t y) = λ y i. grind (arith, cov y i, kept (opposite_of y)) in
-            rw (q, Ends) (grind (arith, names_true c (opposite_of e.mark), picked_rise n e t))
+            (rw (q, Ends) (grind (arith, names_true c (opposite_of e.mark), picked_rise n e t)), (lost, λ no. absurd (cc)))
         | inr q ↦
             let k = worked_ok (names_mark c (opposite_of e.mark)) e.kind e.mark c t refl q ok s.1 s.0 s.2 cov g in
-            rw (q, Ends) (turn_ok ok (worked (names_mark c (opposite_of e.mark)) e.kind e.mark.part c at) t w (le_trans l (top_falls n e t (sound_length n hs at (e ∷ t) s))) s.3 k.0 k.1)
+            let rest = turn_ok ok (worked (names_mark c (opposite_of e.mark)) e.kind e.mark.part c at) t w (le_trans l (top_falls n e t (sound_length n hs at (e ∷ t) s))) s.3 k.0 k.1 in
+            (rw (q, Ends) rest.0, (lost, λ no. rest.1))
       ]

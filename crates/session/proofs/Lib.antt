@@ -1,3 +1,4 @@
 pub mod Steps
 pub mod Looking
 pub mod Laws
+pub mod Solves

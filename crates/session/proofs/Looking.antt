@@ -1,25 +1,23 @@
 -- What the next step does, by what the scans and the holds say.
 use Rattle.std.proofs.Common.{◌≡◌, ℕ, zero, suc, ◌+◌, true, List, [], ◌∷◌, ◌++◌, map, length, get_or, Some, None, Option, option_map, refl, arith}
 use Rattle.std.specs.List.{find, range_with_len}
-use Rattle.std.specs.Option.{option_and_then, option_or, option_flatten}
-use Rattle.std.proofs.lemmas.Grind.{common_steps}
+use Rattle.std.specs.Option.{option_and_then, option_or}
 use Rattle.std.proofs.lemmas.List.{length-map}
 use Rattle.std.proofs.lemmas.Bool.Decides.{nat_tests}
 use Rattle.parts.specs.declared.mark.Mark.{Mark}
 use Rattle.parts.specs.Distinct.{is_distinct}
 use Rattle.parts.specs.Lists.{at_place}
 use Rattle.parts.specs.Rows.{Row, row_marks, is_full}
-use Rattle.parts.proofs.Among.{Among}
 use Rattle.parts.proofs.DistinctLaws.{distinct_member}
 use Rattle.book.specs.Meaning as books
 use Rattle.book.specs.Meaning.{Rule, RuleBook}
 use Rattle.shelf.specs.Meaning as shelves
 use Rattle.shelf.specs.Meaning.{Shelved}
 use Rattle.rules.specs.Proved.{book_list_sound, shelf_list_sound}
-use Rattle.rules.specs.Listing.{Listed, SoundList, sound_if_there, book_list, shelf_list}
+use Rattle.rules.specs.Listing.{sound_if_there, book_list, shelf_list}
 use Rattle.search.specs.declared.reason.Reason.{Reason}
 use Rattle.search.specs.declared.reason.Reason.TheVariants.{Book, Shelf}
-use Rattle.search.specs.Trail.{Trail, State, row, state, pressing, truth, says_false, says_open, reason_of}
+use Rattle.search.specs.Trail.{Trail, State, row, pressing, truth, says_false, says_open, reason_of}
 use Rattle.search.specs.Machine.{Bench, Machine, Press, choose, is_broken, is_pressing, look, press_by, reasons, rule_at, state_of}
 use Rattle.search.proofs.States.{truth_shows, state_says}
 use Rattle.scan.specs.Scanning.{first_in, broken_in}

@@ -1,5 +1,5 @@
 -- A search under way, as the definitions see it: its bench, and its state.
-use Rattle.std.specs.Prelude.{◌≡◌, ◌<◌, ℕ}
+use Rattle.std.specs.Prelude.{◌≡◌, ◌<◌}
 use Rattle.book.specs.declared.Book as books
 use Rattle.picker.specs.declared.Picker as pickers
 use Rattle.shelf.specs.declared.Shelf as shelves

@@ -4,3 +4,4 @@ pub mod Moving
 pub mod Reaching
 pub mod Rows
 pub mod View
+pub mod Solving

@@ -1,9 +1,7 @@
 -- What a session is seen as: its bench and the state of its search, and what each call promises.
-use Rattle.std.specs.Prelude.{◌≡◌, ℕ, ◌+◌, ◌<◌, ◌≤◌, if◌then◌else◌, IsFalse, ◌==◌, List, [], ◌∷◌, ◌++◌, length, Some, None, Ok, Err, Option, Result}
+use Rattle.std.specs.Prelude.{◌≡◌, ℕ, ◌+◌, ◌<◌, ◌≤◌, IsFalse, List, [], ◌∷◌, ◌++◌, Some, None, Ok, Err, Result}
 use Rattle.parts.specs.declared.mark.Mark.{Mark}
-use Rattle.parts.specs.declared.refusal.Refusal.{Refusal}
 use Rattle.parts.specs.declared.refusal.Refused.{Refused}
-use Rattle.parts.specs.declared.refusal.Refusal.TheVariants.{RowLength, NoSuchVerdict}
 use Rattle.parts.specs.Rows.{Row}
 use Rattle.book.specs.Meaning.{RuleBook}
 use Rattle.book.specs.Choices.{ShowsFit, NamesClash}

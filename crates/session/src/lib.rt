@@ -5,11 +5,9 @@ mod budget;
 mod moves;
 mod search_state;
 mod session;
-
-
 mod verdict;
+mod whole;
 
 pub use budget::check_budget;
 pub use session::Session;
-
-
+pub use whole::{Solved, solve};

@@ -51,13 +51,20 @@ impl<B: Book, P: Picker, S: Shelf> Search<B, P, S> {
     ghost use Rattle.search.specs.Machine.{stands, standing};
     ghost use Rattle.search.specs.Calls.{hold as held, release as let_out, run_for, call, call_reply, run_reply, report, opened, restarted};
     ghost use Rattle.parts.specs.Distinct.{is_part};
-    ghost use Rattle.std.specs.Prelude.{not};
+    ghost use Rattle.std.specs.Prelude.{not, IfSome, length};
+    ghost use Rattle.std.specs.Option.{option_map};
+    ghost use Rattle.session.specs.Rows.{fitting_row, clashing_row};
     ghost use Rattle.session.specs.Inner.{bench_in, state_in, Going, Kept};
-
 
     // A search that begins under these holds: every place is cleared, nothing is settled, and nothing counted.
     #[tactic(auto, using(std::proofs::lemmas::Bool::Decides::nat_tests, std::proofs::lemmas::Grind::common_steps), unfolding(search::specs::Calls::opened, search::specs::Calls::restarted))]
-    pub(crate) fn new(book: B, picker: P, mut shelf: S, forget: Forgetting, holds: Holds) -> Search<B, P, S>
+    pub(crate) fn new(
+        book: B,
+        picker: P,
+        mut shelf: S,
+        forget: Forgetting,
+        holds: Holds,
+    ) -> Search<B, P, S>
         requires same_picker { (P.meaning picker).n ≡ (B.meaning book).n }
         requires same_shelf { (S.meaning shelf).n ≡ (B.meaning book).n }
         requires held { IsTrue (is_distinct (B.meaning book).n holds) }
@@ -143,10 +150,8 @@ impl<B: Book, P: Picker, S: Shelf> Search<B, P, S> {
     #[tactic(auto, unfolding(search::specs::Machine::asked))]
     fn ask(&mut self)
         requires { Going self.old }
-        ensures after {
-            state_in self.new ≡ asked (state_in self.old)
-            (picked_by (P.meaning self.old.picker) (settled_row self.old.trail.n self.old.trail.entries))
-        }
+        ensures after { state_in self.new ≡ asked (state_in self.old)
+            (picked_by (P.meaning self.old.picker) (settled_row self.old.trail.n self.old.trail.entries)) }
         ensures kept { Kept self.old self.new }
     {
         match self.picker.pick(self.trail.row()) {
@@ -304,6 +309,30 @@ impl<B: Book, P: Picker, S: Shelf> Search<B, P, S> {
             answer: self.verdict.answer(),
             steps: self.steps,
             turns: self.turns,
+        }
+    }
+
+    // The codes of the choice, where one fits.
+    #[tactic(auto, using(search::proofs::Settled::length_row))]
+    pub(crate) fn fitting_row(&self) -> Option<&[u8]>
+        ensures value { option_map (λ cs. cs.now) result ≡ fitting_row (bench_in self.now) (state_in self.now) }
+        ensures long { IfSome result (λ cs. length cs.now ≡ (bench_in self.now).book.n) }
+    {
+        match self.verdict {
+            Verdict::Fits => Some(self.trail.row()),
+            _ => None,
+        }
+    }
+
+    // The codes of the named holds, where none fits.
+    pub(crate) fn clashing_row(&self) -> Option<&[u8]>
+        ensures value { option_map (λ cs. cs.now) result ≡ clashing_row (state_in self.now) }
+        ensures long { IfSome result (λ cs. length cs.now ≡ (bench_in self.now).book.n) }
+    {
+        let n = self.book.n();
+        match &self.verdict {
+            Verdict::NoneFits(named) => Some(&named[..n]),
+            _ => None,
         }
     }
 

@@ -6,7 +6,6 @@ ghost use Rattle.session.specs.Inner.{bench_in, state_in};
 ghost use Rattle.session.specs.Reaching.{Reached};
 
 use crate::search_state::{Search, check_opening};
-use crate::verdict::Verdict;
 use book::Book;
 use parts::{Holds, Refusal, Refused};
 use picker::Picker;
@@ -22,14 +21,15 @@ pub struct Session<B: Book, P: Picker, S: Shelf> {
 }
 
 impl<B: Book, P: Picker, S: Shelf> Session<B, P, S> {
-    ghost use Rattle.std.specs.Prelude.{IfOk, OnOk};
+    ghost use Rattle.std.specs.Prelude.{IfOk, OnOk, IsTrue, None};
+    ghost use Rattle.parts.specs.Distinct.{is_distinct};
     ghost use Rattle.book.specs.Choices.{ShowsFit, NamesClash};
     ghost use Rattle.shelf.specs.Meaning.{code_of_place};
     ghost use Rattle.search.specs.Bounds.{most_steps};
     ghost use Rattle.search.specs.Machine.{standing};
-    ghost use Rattle.search.specs.Calls.{hold as held, release as let_out, run_for, call, call_reply, run_reply, settled_code, choice_row, named_row};
+    ghost use Rattle.search.specs.Calls.{hold as held, release as let_out, run_for, call, call_reply, run_reply, opened, refuses_open, restarted, settled_code, choice_row, named_row};
     ghost use Rattle.search.specs.Law.{LessonsFollow};
-    ghost use Rattle.session.specs.View.{book_of, picker_of, shelf_of, bench_of, state_of, Kept, Opened, Assured, SpentBelow, PromisedAfter};
+    ghost use Rattle.session.specs.View.{book_of, picker_of, shelf_of, forget_of, bench_of, state_of, Kept, Opened, Assured, SpentBelow, PromisedAfter};
 
     /// Opens a session: every place is cleared, nothing is held or settled, and nothing counted.
     /// Refused with 15 where the three differ in n, else with 16 where a forgetting number is above 120; then all three come back as they were.
@@ -42,15 +42,33 @@ impl<B: Book, P: Picker, S: Shelf> Session<B, P, S> {
         ensures opened { Opened book picker shelf forget result }
         ensures assured { IfOk result (λ x. Assured (bench_of x) (state_of x)) }
     {
-        if let Err(refusal) = check_opening(&book, &picker, &shelf, forget) {
-            return Err(Refused {
+        match check_opening(&book, &picker, &shelf, forget) {
+            Ok(()) => Ok(Session {
+                search: Search::new(book, picker, shelf, forget, Holds::empty()),
+            }),
+            Err(refusal) => Err(Refused {
                 refusal,
                 back: (book, picker, shelf),
-            });
+            }),
         }
-        Ok(Session {
-            search: Search::new(book, picker, shelf, forget, Holds::empty()),
-        })
+    }
+
+    // Opens a session under these holds, where that is accepted.
+    pub(crate) fn open_under(
+        book: B,
+        picker: P,
+        shelf: S,
+        forget: Forgetting,
+        holds: Holds,
+    ) -> Session<B, P, S>
+        requires opens { refuses_open (B.meaning book).n (P.meaning picker).n (S.meaning shelf).n forget ≡ None }
+        requires held { IsTrue (is_distinct (B.meaning book).n holds) }
+        ensures state { state_of result ≡ restarted (opened (P.meaning picker) (S.meaning shelf)) holds }
+        ensures kept { (book_of result ≡ book) × (picker_of result ≡ picker) × (forget_of result ≡ forget) }
+    {
+        Session {
+            search: Search::new(book, picker, shelf, forget, holds),
+        }
     }
 
     /// Ends the session, and gives back book, picker and shelf with its lessons.
@@ -173,11 +191,7 @@ impl<B: Book, P: Picker, S: Shelf> Session<B, P, S> {
         ensures after { row.new ≡ row_or (choice_row (bench_of self.now).book.n (state_of self.now) (length row.old)) row.old }
         ensures shows { OnOk result (ShowsFit (bench_of self.now).book (state_of self.now).holds row.new) }
     {
-        let codes = match self.search.verdict {
-            Verdict::Fits => Some(self.search.trail.row()),
-            _ => None,
-        };
-        show(codes, self.n(), row)
+        show(self.search.fitting_row(), self.n(), row)
     }
 
     /// Fills a row with the holds that a standing "none fits" names, 0 elsewhere.
@@ -187,12 +201,7 @@ impl<B: Book, P: Picker, S: Shelf> Session<B, P, S> {
         ensures after { row.new ≡ row_or (named_row (bench_of self.now).book.n (state_of self.now) (length row.old)) row.old }
         ensures names { OnOk result (NamesClash (bench_of self.now).book (state_of self.now).holds row.new) }
     {
-        let n = self.n();
-        let codes = match &self.search.verdict {
-            Verdict::NoneFits(named) => Some(&named[..n]),
-            _ => None,
-        };
-        show(codes, n, row)
+        show(self.search.clashing_row(), self.n(), row)
     }
 }
 

@@ -34,7 +34,7 @@ Adds n s (hold m) t = (1 ≤ m.part) × (m.part ≤ n) × (names_part s.holds m.
 adds_added : (n at : ℕ) (s t : Said) (l : Line) → Adds n s l t → added n at s l ≡ Ok t
 adds_added n at s t l h = grind (arith, nat_tests)
 
-added_adds : (n at : ℕ) (s t : Said) (l : Line) → added n at s l ≡ Ok t → Adds n s l t
+pub added_adds : (n at : ℕ) (s t : Said) (l : Line) → added n at s l ≡ Ok t → Adds n s l t
 added_adds n at s t l h = grind (arith, nat_tests, nil_from_length s.holds)
 
 -- how reading goes on after a line

@@ -1,2 +1,3 @@
 pub mod LineOf
 pub mod Accepted
+pub mod FirstFaults

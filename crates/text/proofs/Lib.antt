@@ -4,3 +4,4 @@ pub mod LineLaws
 pub mod FieldLaws
 pub mod NumberLaws
 pub mod PageLaws
+pub mod Cuts

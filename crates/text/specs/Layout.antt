@@ -19,6 +19,26 @@ abbrev pub EndsField : List ℕ → Type 0
 EndsField [] = Unit {0}
 EndsField (b ∷ bs) = Blank b
 
+-- where a field of a text ends: where its line does, or before a blank
+abbrev pub EndsWord : List ℕ → Type 0
+EndsWord [] = Unit {0}
+EndsWord (b ∷ bs) = Blank b ⊎ (b ≡ 10)
+
+-- where a line of a text ends: at the text's end, or before a line feed
+abbrev pub EndsLine : List ℕ → Type 0
+EndsLine [] = Unit {0}
+EndsLine (b ∷ bs) = b ≡ 10
+
+-- where a field may start: at the text's start, or after a blank or a line feed
+abbrev pub StartsField : List ℕ → Type 0
+StartsField before =
+    (before ≡ [])
+    ⊎ ((front : List ℕ) × (b : ℕ) × (before ≡ front ++ b ∷ []) × (Blank b ⊎ (b ≡ 10)))
+
+-- where a line starts: at the text's start, or after a line feed
+abbrev pub StartsLine : List ℕ → Type 0
+StartsLine before = (before ≡ []) ⊎ ((front : List ℕ) × (before ≡ front ++ 10 ∷ []))
+
 -- a line with these fields: blanks stand between them, at least one, and may stand before and after
 abbrev pub Fields : List (List ℕ) → List ℕ → Type 0
 Fields [] line = AllByRecursion Blank line

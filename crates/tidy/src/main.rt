@@ -1,11 +1,10 @@
-// tidy: reads book.cnf in the current folder and prints the book as it is written here, or where it is refused.
+//! tidy: reads book.cnf in the current folder and prints the book as it is written here, or where it is refused.
 #![tactic(auto)]
 
 use anyhow::{Context, bail};
-use book::Book;
-use book::text::TextBook;
+use book::{Book, TextBook};
 use parts::limits::MOST_TEXT_BYTES;
-use reading::loading::{Unloaded, load};
+use reading::{LoadError, load};
 use std::fs;
 use std::io::Write;
 use writing::{count_marks, write};
@@ -19,8 +18,8 @@ fn tidy(rt: &HostRuntime) -> anyhow::Result<()> {
     let text = fs::read(rt, "book.cnf").unwrap_or_else(|_| Vec::new(rt.alloc()));
     match load(rt.alloc(), &text) {
         Ok(book) => print_book(rt, &book),
-        Err(Unloaded::Faulty(fault)) => Ok(println!(rt; "refused\t{fault}")?),
-        Err(Unloaded::NoMemory) => bail!("out of memory"),
+        Err(LoadError::Faulty(fault)) => Ok(println!(rt; "refused\t{fault}")?),
+        Err(LoadError::NoMemory) => bail!("out of memory"),
     }
 }
 

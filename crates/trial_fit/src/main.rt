@@ -1,8 +1,8 @@
-// trial_fit: searches each bench of cases.tsv, which an independent program told, and tells where the printed lines differ.
+//! trial_fit: searches each bench of cases.tsv, which an independent program answered, and prints where the lines differ.
 #![tactic(auto)]
 
 use anyhow::{Context, bail};
-use reading::loading::Unloaded;
+use reading::LoadError;
 use repair::Repair;
 use std::alloc::Global;
 use std::fs;
@@ -49,7 +49,7 @@ fn parse_case(heap: Global, line: &str) -> anyhow::Result<Case> {
 fn printed(heap: Global, case: &Case) -> anyhow::Result<String> {
     match Repair::of(heap, &case.book, &case.sheet) {
         Ok(repair) => Ok(format!(in heap; "{repair}")?),
-        Err(Unloaded::Faulty(fault)) => Ok(format!(in heap; "refused\t{fault}\n")?),
-        Err(Unloaded::NoMemory) => bail!("out of memory"),
+        Err(LoadError::Faulty(fault)) => Ok(format!(in heap; "refused\t{fault}\n")?),
+        Err(LoadError::NoMemory) => bail!("out of memory"),
     }
 }

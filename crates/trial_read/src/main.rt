@@ -1,9 +1,9 @@
-// trial_read: reads each text of cases.tsv, which an independent reader judged, and tells where the two disagree.
+//! trial_read: reads each text of cases.tsv, which an independent reader judged, and prints where the two disagree.
 #![tactic(auto)]
 
 use anyhow::Context;
 use grammar::Size;
-use parts::refusals::Fault;
+use parts::Fault;
 use reading::read;
 use std::alloc::{AllocError, Global};
 use std::fs;
@@ -19,22 +19,22 @@ struct Case {
     text: Vec<u8>,
     marks: usize,
     ends: usize,
-    reply: Result<Size, ToldFault>,
+    reply: Result<Size, NumberedFault>,
     rules: Vec<i16>,
 }
 
-// A fault as it is told: its refusal by number, its byte from 0, and the rule being read.
-// Stays beside the fault of a reading: an independent reader tells a number, which need not be that of a refusal.
+// A fault as it is printed: its refusal by number, its byte from 0, and the rule being read.
+// Stays beside the fault of a reading: an independent reader gives a number, which need not be that of a refusal.
 #[derive(Clone, Copy, PartialEq, Eq)]
-struct ToldFault {
+struct NumberedFault {
     number: u8,
     byte: usize,
     rule: usize,
 }
 
-impl From<Fault> for ToldFault {
-    fn from(fault: Fault) -> ToldFault {
-        ToldFault {
+impl From<Fault> for NumberedFault {
+    fn from(fault: Fault) -> NumberedFault {
+        NumberedFault {
             number: u8::from(fault.refusal),
             byte: fault.byte,
             rule: fault.rule,
@@ -80,7 +80,7 @@ fn parse_case(heap: Global, line: &str) -> anyhow::Result<Case> {
             (Ok(size), last.unwrap_or(""))
         }
         _ => {
-            let fault = ToldFault {
+            let fault = NumberedFault {
                 number: u8::try_from(first)?,
                 byte: second,
                 rule: number(last, "no rule")?,
@@ -97,13 +97,13 @@ fn parse_case(heap: Global, line: &str) -> anyhow::Result<Case> {
     })
 }
 
-// The number that a field tells, which must be there.
+// The number in a field, which must be there.
 // Stays beside the like of trial_session: a library for one line, with a contract and an edit, would be no plainer.
 fn number(field: Option<&str>, missing: &str) -> anyhow::Result<usize> {
     Ok(field.context(missing)?.parse::<usize>()?)
 }
 
-// The numbers of a line, parted by spaces.
+// The numbers of a line, separated by spaces.
 fn numbers(heap: Global, line: &str) -> anyhow::Result<Vec<i16>> {
     line.split_whitespace()
         .map(|word| -> anyhow::Result<i16> { Ok(word.parse::<i16>()?) })
@@ -114,7 +114,7 @@ fn numbers(heap: Global, line: &str) -> anyhow::Result<Vec<i16>> {
 fn agrees(heap: Global, case: &Case) -> Result<bool, AllocError> {
     let mut marks = vec![in heap; UNTOUCHED_MARK; case.marks]?;
     let mut ends = vec![in heap; UNTOUCHED_END; case.ends]?;
-    let reply = read(&case.text, &mut marks, &mut ends).map_err(ToldFault::from);
+    let reply = read(&case.text, &mut marks, &mut ends).map_err(NumberedFault::from);
     Ok(reply == case.reply && holds(&marks, &ends, &case.rules))
 }
 

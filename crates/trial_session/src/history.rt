@@ -1,8 +1,7 @@
 // The history of a session: what it was opened with, each call with its reply, and the lessons at the end.
-use book::text::Tables;
-use parts::Mark;
-use parts::refusals::Refusal;
-use search::{Forgetting, Report, Told};
+use book::Tables;
+use parts::{Mark, Refusal};
+use search::{Forgetting, Report};
 
 #[derive(Drop)]
 pub struct History {
@@ -79,9 +78,8 @@ impl From<Refusal> for Unanswered {
     }
 }
 
+// What a session says of itself: the verdict that stands, the steps and the turns.
+pub type Counts = (Option<search::Answer>, usize, usize);
+
 // What stands after an opening, and after each accepted hold or release.
-pub const START: Report = Report {
-    told: Told::Spent,
-    steps: 0,
-    turns: 0,
-};
+pub const START: Counts = (None, 0, 0);

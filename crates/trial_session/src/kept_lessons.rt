@@ -1,7 +1,7 @@
 // The lessons at the end of a history, asked of the session and of the shelf that it gives back.
 use crate::comparing::{Tally, Trial};
 use crate::history::Lesson;
-use parts::refusals::Refusal;
+use parts::Refusal;
 use shelf::Shelf;
 use std::alloc::{AllocError, Global};
 

@@ -3,12 +3,9 @@ use crate::comparing::{Tally, Trial};
 use crate::history::{History, Opening};
 use crate::replay::replay;
 use anyhow::Context;
-use book::text::{Tables, TextBook};
-use picker::lowest::Lowest;
-use picker::ranked::Ranked;
-use shelf::Shelf;
-use shelf::grid::GridShelf;
-use shelf::list::ListShelf;
+use book::{Tables, TextBook};
+use picker::{Lowest, Ranked};
+use shelf::{GridShelf, ListShelf, Shelf};
 use std::alloc::Global;
 
 // What each entry of a shelf's table holds before the shelf is made: no empty place.
@@ -37,7 +34,7 @@ where
     let shelf = new(opening.parts, opening.places, table)
         .ok()
         .context(format_args!("no {}", trial.make))?;
-    let book = lay_book(heap, opening)?;
+    let book = make_book(heap, opening)?;
     match &opening.ranking {
         None => {
             let picker = Lowest::new(opening.parts).ok().context("no picker")?;
@@ -57,13 +54,13 @@ fn entries(opening: &Opening) -> usize {
         .saturating_mul(opening.parts.saturating_add(1))
 }
 
-fn lay_book(heap: Global, opening: &Opening) -> anyhow::Result<TextBook> {
+fn make_book(heap: Global, opening: &Opening) -> anyhow::Result<TextBook> {
     let Tables { marks, ends } = &opening.tables;
     let tables = Tables {
         marks: marks.to_vec(heap)?,
         ends: ends.to_vec(heap)?,
     };
-    TextBook::lay(opening.parts, ends.len(), tables)
+    TextBook::new(opening.parts, ends.len(), tables)
         .ok()
         .context("no book")
 }

@@ -1,12 +1,11 @@
 // Replaying a history on one session.
 use crate::comparing::{Tally, Trial};
-use crate::history::{Answer, Call, Reply, START, Unanswered};
+use crate::history::{Answer, Call, Counts, Reply, START, Unanswered};
 use crate::kept_lessons::{compare_codes, compare_marks};
 use anyhow::Context;
 use book::Book;
-use parts::refusals::Refusal;
+use parts::Refusal;
 use picker::Picker;
-use search::Report;
 use session::Session;
 use shelf::Shelf;
 use std::alloc::{AllocError, Global};
@@ -40,31 +39,37 @@ pub fn replay<B: Book + Drop, P: Picker + Drop, S: Shelf + Drop>(
     Ok(trial.tally)
 }
 
-// Makes every call, and after each asks also for the report.
+// Makes every call, and after each asks also for verdict, steps and turns.
 fn replay_calls<B: Book, P: Picker, S: Shelf>(
     trial: &mut Trial,
     session: &mut Session<B, P, S>,
 ) -> anyhow::Result<()> {
     let heap = trial.rt.alloc();
     let history = trial.history;
-    let mut report = START;
+    let mut counts = START;
     for (number, exchange) in (1..).zip(history.calls.iter()) {
         let reply = make_call(heap, session, history.opening.parts, exchange.call)?;
         trial.compare("call", number, &exchange.reply, &reply)?;
-        report = report_after(report, &exchange.reply);
-        trial.compare("report after call", number, &report, &session.report())?;
+        counts = counts_after(counts, &exchange.reply);
+        let found = (session.verdict(), session.steps(), session.turns());
+        trial.compare("counts after call", number, &counts, &found)?;
     }
     trial.tally.calls = history.calls.len();
     Ok(())
 }
 
 // What stands after an expected reply: a refusal or a question changes nothing.
-fn report_after(report: Report, reply: &Reply) -> Report {
+fn counts_after(counts: Counts, reply: &Reply) -> Counts {
     match reply {
         Ok(Answer::Done) => START,
-        Ok(Answer::Ran(told)) => *told,
-        _ => report,
+        Ok(Answer::Ran(report)) => (standing(report.answer), report.steps, report.turns),
+        _ => counts,
     }
+}
+
+// The verdict that stands after a run: none after a spent one.
+fn standing(answer: search::Answer) -> Option<search::Answer> {
+    Some(answer).filter(|answer| *answer != search::Answer::Spent)
 }
 
 // Makes one call, and tells its reply.

@@ -1,6 +1,6 @@
 // Books in the making.
 use anyhow::Context;
-use book::text::{Tables, TextBook};
+use book::{Tables, TextBook};
 use parts::{Mark, Side};
 use std::alloc::Global;
 
@@ -35,7 +35,7 @@ impl Draft {
     pub fn finish(self) -> anyhow::Result<TextBook> {
         let Draft { n, tables } = self;
         let rules = tables.ends.len();
-        TextBook::lay(n, rules, tables).ok().context("no book")
+        TextBook::new(n, rules, tables).ok().context("no book")
     }
 }
 

@@ -4,10 +4,9 @@ use crate::generated::{bay_book, full_book, pigeon_book, random_book};
 use crate::searching::Trial;
 use crate::tally::Tally;
 use anyhow::anyhow;
-use book::Book;
-use book::text::TextBook;
+use book::{Book, TextBook};
 use parts::Mark;
-use reading::loading::{Unloaded, load};
+use reading::{LoadError, load};
 use std::fmt::Display;
 use std::fs;
 use std::ops::RangeInclusive;
@@ -141,7 +140,7 @@ fn read_book(rt: &HostRuntime, name: &str) -> anyhow::Result<TextBook> {
     let text = fs::read(rt, name)?;
     match load(rt.alloc(), &text) {
         Ok(book) => Ok(book),
-        Err(Unloaded::Faulty(fault)) => Err(anyhow!("{name} is refused: {fault}")),
-        Err(Unloaded::NoMemory) => Err(anyhow!("out of memory")),
+        Err(LoadError::Faulty(fault)) => Err(anyhow!("{name} is refused: {fault}")),
+        Err(LoadError::NoMemory) => Err(anyhow!("out of memory")),
     }
 }

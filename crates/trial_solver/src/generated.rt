@@ -3,9 +3,7 @@ use crate::dice::Dice;
 use crate::draft::Draft;
 use anyhow::Context;
 use bays::BayBook;
-use book::Book;
-use book::joined::{Joined, join};
-use book::text::TextBook;
+use book::{Book, Joined, TextBook};
 use parts::{Mark, Side};
 use std::alloc::{AllocError, Global};
 
@@ -114,8 +112,8 @@ pub fn bay_book(heap: Global, dice: &mut Dice) -> anyhow::Result<JoinedBays> {
     let n = bays.n();
     let twos = random_book(heap, dice, n, n / 2, 2)?;
     let threes = random_book(heap, dice, n, n, 3)?;
-    let first = join(bays, twos).ok().context("no joined book")?;
-    join(first, threes).ok().context("no joined book")
+    let first = Joined::new(bays, twos).ok().context("no joined book")?;
+    Joined::new(first, threes).ok().context("no joined book")
 }
 
 // The widths of the bays.

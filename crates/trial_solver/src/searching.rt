@@ -3,17 +3,12 @@ use crate::judging::{Asked, Judgement, UNTOUCHED, judge_choice, judge_named, jud
 use crate::tally::Tally;
 use anyhow::Context;
 use book::Book;
-use fitting::calls::fit;
-use parts::limits::MOST_PLACES;
-use parts::refusals::Refusal;
-use parts::{Mark, Side};
-use picker::Picker;
-use picker::lowest::Lowest;
-use picker::ranked::Ranked;
-use search::{Forgetting, Report, Told};
-use shelf::Shelf;
-use shelf::grid::GridShelf;
-use shelf::list::ListShelf;
+use parts::limits::MOST_TABLE_PLACES;
+use parts::{Mark, Refusal, Side};
+use picker::{Lowest, Picker, Ranked};
+use search::{Answer, Forgetting, Report};
+use session::solve;
+use shelf::{GridShelf, ListShelf, Shelf};
 use std::alloc::Global;
 use std::fmt::Display;
 
@@ -90,7 +85,7 @@ impl<'a, N: Copy + Display> Trial<'a, N> {
         let (_picker, book) = self.search_on(
             bench,
             picker,
-            MOST_PLACES,
+            MOST_TABLE_PLACES,
             0u16,
             ListShelf::new,
             book,
@@ -122,7 +117,7 @@ impl<'a, N: Copy + Display> Trial<'a, N> {
         let table = vec![in heap; entry; places.saturating_mul(n.saturating_add(1))]?;
         let shelf = new(n, places, table).ok().context("no shelf")?;
         let mut row = vec![in heap; UNTOUCHED; n]?;
-        let tried = fit(
+        let solved = solve(
             book,
             picker,
             shelf,
@@ -131,8 +126,8 @@ impl<'a, N: Copy + Display> Trial<'a, N> {
             self.budget,
             &mut row,
         );
-        self.judge(bench, &tried.book, tried.reply, &row)?;
-        Ok((tried.picker, tried.book))
+        self.judge(bench, &solved.book, solved.reply, &row)?;
+        Ok((solved.picker, solved.book))
     }
 
     // Judges a reply and the row that came with it, and counts both.
@@ -144,7 +139,7 @@ impl<'a, N: Copy + Display> Trial<'a, N> {
         row: &[u8],
     ) -> anyhow::Result<()> {
         let judgement = match reply {
-            Ok(report) => self.judge_told(report.told, book, row)?,
+            Ok(report) => self.judge_answer(report.answer, book, row)?,
             Err(_) => Judgement::Disagrees("the search is refused"),
         };
         match judgement {
@@ -159,22 +154,22 @@ impl<'a, N: Copy + Display> Trial<'a, N> {
     }
 
     // Counts a verdict, and judges the row that came with it.
-    fn judge_told<B: Book>(
+    fn judge_answer<B: Book>(
         &mut self,
-        told: Told,
+        answer: Answer,
         book: &B,
         row: &[u8],
     ) -> anyhow::Result<Judgement> {
-        Ok(match told {
-            Told::Fits => {
+        Ok(match answer {
+            Answer::Fits => {
                 count(&mut self.tally.fits);
                 judge_choice(book, self.holds, row)
             }
-            Told::NoneFits => {
+            Answer::NoneFits => {
                 count(&mut self.tally.none);
                 judge_named(self.rt.alloc(), &mut self.asked, book, self.holds, row)?
             }
-            Told::Spent => {
+            Answer::Spent => {
                 count(&mut self.tally.spent);
                 judge_spent(row)
             }

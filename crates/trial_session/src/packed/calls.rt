@@ -4,7 +4,7 @@ use crate::kept_lessons::code_of;
 use crate::packed::{name_and_numbers, parse_each};
 use anyhow::{Context, bail, ensure};
 use parts::Mark;
-use search::{Report, Told};
+use search::Report;
 use std::alloc::Global;
 
 // The calls, parted by bars.
@@ -53,8 +53,8 @@ fn parse_reply(heap: Global, text: &str) -> anyhow::Result<Reply> {
         ("empty", []) => Ok(Answer::Empty),
         ("row", codes) => Ok(Answer::Codes(codes_of(heap, codes)?)),
         ("refused", [number]) => Err(Unanswered::Refused(u8::try_from(*number)?)),
-        (told, [steps, turns]) => Ok(Answer::Ran(Report {
-            told: told_by(told)?,
+        (answer, [steps, turns]) => Ok(Answer::Ran(Report {
+            answer: answer_by(answer)?,
             steps: *steps,
             turns: *turns,
         })),
@@ -62,11 +62,11 @@ fn parse_reply(heap: Global, text: &str) -> anyhow::Result<Reply> {
     })
 }
 
-fn told_by(name: &str) -> anyhow::Result<Told> {
+fn answer_by(name: &str) -> anyhow::Result<search::Answer> {
     Ok(match name {
-        "fits" => Told::Fits,
-        "none" => Told::NoneFits,
-        "spent" => Told::Spent,
+        "fits" => search::Answer::Fits,
+        "none" => search::Answer::NoneFits,
+        "spent" => search::Answer::Spent,
         _ => bail!("no reply"),
     })
 }

@@ -2,7 +2,7 @@
 use crate::history::Opening;
 use crate::packed::{name_and_numbers, number};
 use anyhow::{Context, bail, ensure};
-use book::text::Tables;
+use book::Tables;
 use parts::Mark;
 use search::Forgetting;
 use std::alloc::Global;

@@ -1,4 +1,4 @@
-use Rattle.std.proofs.Common.{◌≡◌, arith}
+use Rattle.std.proofs.Common.{arith}
 use Rattle.session.proofs.Steps.{picked_open}
 use Rattle.session.proofs.search_state.Search.ask.Goals as goal
 
