@@ -1,5 +1,5 @@
 -- The open marks of a lesson, the places that are asked in turn, and the places that forgetting leaves.
-use Rattle.std.proofs.Common.{◌≡◌, ℕ, zero, suc, ◌+◌, ◌-◌, ◌<◌, ◌≤◌, Bool, false, not, cond, List, [], ◌∷◌, ◌++◌, slice_get, length, count_by, add-one, take, drop, Some, None, Ok, Option, MatchOption, refl, arith}
+use Rattle.std.proofs.Common.{◌≡◌, ℕ, zero, suc, ◌+◌, ◌-◌, ◌<◌, ◌≤◌, Bool, false, not, cond, List, [], ◌∷◌, ◌++◌, slice_get, length, take, drop, Some, None, Ok, Option, MatchOption, refl, arith}
 use Rattle.std.specs.List.{find, range_with_len}
 use Rattle.std.proofs.iter.runs.Sources.{nat_range_inclusive_steps}
 use Rattle.std.specs.Range.{range_inclusive_start, range_inclusive_end, range_inclusive_exhausted, range_inclusive_left}
@@ -8,7 +8,8 @@ use Rattle.std.proofs.lemmas.Iterator.{YieldsList}
 use Rattle.std.proofs.lemmas.Iterator.Consumers.{YieldsList-from_shown}
 use Rattle.std.proofs.lemmas.List.{at_drop_more}
 use Rattle.std.proofs.lemmas.Grind.{common_steps}
-use Rattle.std.proofs.lemmas.Option.{gets}
+use Rattle.std.proofs.lemmas.Option.{gets, slice_get_within, get_or_from_slice_get}
+use Rattle.std.proofs.lemmas.List.Sums.{count_by_more_yes, count_by_more_no}
 use Rattle.std.proofs.lemmas.Bool.Decides.{nat_tests}
 use Rattle.parts.specs.Lists.{at_place}
 use Rattle.parts.specs.Rows.{Row, row_marks}
@@ -33,38 +34,37 @@ got k [] l = absurd (omega arith)
 got zero (x ∷ xs) l = (x, refl)
 got (suc k) (x ∷ xs) l = got k xs (omega arith)
 
-count_cons : {X : Type 0} (p : X → Bool) (x : X) (xs : List X) → count_by p (x ∷ xs) ≡ cond (p x) 1 0 + count_by p xs
-count_cons p x xs = grind arith
-
-count_step : {X : Type 0} (p : X → Bool) (xs : List X) (k : ℕ) (x : X) → slice_get xs k ≡ Some x → count_by p (drop k xs) ≡ cond (p x) 1 0 + count_by p (drop (suc k) xs)
-count_step p [] k x h = absurd cc
-count_step p (y ∷ xs) zero x h = let e : y ≡ x = cc in rw (← e) (count_cons p y xs)
-count_step p (y ∷ xs) (suc k) x h = count_step p xs k x h
-
-open_step : (now : Row) (ms : List Mark) (k : ℕ) (m : Mark) → slice_get ms k ≡ Some m → open_count now (drop k ms) ≡ cond (says_open (truth now m)) 1 0 + open_count now (drop (suc k) ms)
+open_step : (now : Row) (ms : List Mark) (k : ℕ) (m : Mark) → slice_get ms k ≡ Some m → open_count now (take (k + 1) ms) ≡ open_count now (take k ms) + cond (says_open (truth now m)) 1 0
 unfolding open_count
-open_step now ms k m h = count_step (λ (m : Mark). says_open (truth now m)) ms k m h
+open_step now ms k m h =
+    let p = λ (m : Mark). says_open (truth now m) in
+    let l = slice_get_within ms k m h in
+    let x = get_or_from_slice_get ms k m m h in
+    grind (arith, l, x, count_by_more_yes p ms k m l, count_by_more_no p ms k m l)
 
--- the open marks of a lesson from one of its marks on
+pub open_none : (now : Row) → 0 ≡ open_count now []
+unfolding open_count
+open_none now = refl
+
+-- the open marks of a lesson among so many of its marks
 module _ (now : Row) (s : Shelved) (place : ℕ) where
   more_open : (k : ℕ) (m : Mark) (o : Option Row) → row_at s place ≡ o → Ok (Some m) ≡ mark_of_place s place (k + 1)
-      → open_count now (drop k (marks_on s place)) ≡ cond (says_open (truth now m)) 1 0 + open_count now (drop (k + 1) (marks_on s place))
+      → open_count now (take (k + 1) (marks_on s place)) ≡ open_count now (take k (marks_on s place)) + cond (says_open (truth now m)) 1 0
   more_open k m None r e = absurd (grind arith)
   more_open k m (Some row) r e =
       let at : slice_get (row_marks row) k ≡ Some m = grind arith in
       let on : marks_on s place ≡ row_marks row = rw r refl in
-      rw on (rw add-one (open_step now (row_marks row) k m at))
+      rw on (open_step now (row_marks row) k m at)
 
   pub open_more : (k : ℕ) (m : Mark) → Ok (Some m) ≡ mark_of_place s place (k + 1)
-      → open_count now (drop k (marks_on s place)) ≡ cond (says_open (truth now m)) 1 0 + open_count now (drop (k + 1) (marks_on s place))
+      → open_count now (take (k + 1) (marks_on s place)) ≡ open_count now (take k (marks_on s place)) + cond (says_open (truth now m)) 1 0
   open_more k m e = more_open k m (row_at s place) refl e
 
   counted : (n : ℕ) (o : Option Row) → row_at s place ≡ o → Ok (Some n) ≡ marks_of_place s place → n ≡ length (marks_on s place)
   counted n None r e = absurd (grind arith)
   counted n (Some row) r e = grind arith
 
-  pub open_end : (n k : ℕ) → Ok (Some n) ≡ marks_of_place s place → n ≤ k → open_count now (drop k (marks_on s place)) ≡ 0
-  unfolding open_count
+  pub open_end : (n k : ℕ) → Ok (Some n) ≡ marks_of_place s place → n ≤ k → open_count now (take k (marks_on s place)) ≡ open_count now (marks_on s place)
   open_end n k e l = let c = counted n (row_at s place) refl e in grind (arith, common_steps)
 
 -- there is a mark after fewer than were counted

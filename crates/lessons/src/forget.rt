@@ -24,7 +24,7 @@ pub fn is_forgotten(forget: Forgetting, marks: usize, unsettled: usize) -> bool
 }
 
 // How many marks of the lesson in a place are open under the trail.
-#[tactic(auto, using(shelf::proofs::Passed::none_passed, shelf::proofs::Passed::place_passed, crate::proofs::Lessons::open_more, crate::proofs::Lessons::open_end))]
+#[tactic(auto, using(shelf::proofs::Passed::none_passed, crate::proofs::Lessons::open_none, crate::proofs::Lessons::open_end))]
 fn open_marks<S: Shelf>(shelf: &S, place: usize, marks: usize, trail: &Trail) -> usize
     requires { Ok (Some marks) ≡ marks_of_place (S.Shelf.meaning shelf.now) place }
     ensures { result ≡ open_count (settled_row trail.now.n trail.now.entries)
