@@ -1,5 +1,5 @@
 //! Forgetting: which lessons are cleared at the end of a turn.
-ghost use Rattle.std.specs.Prelude.{◌≡◌, [], Some};
+ghost use Rattle.std.specs.Prelude.{◌≡◌, [], Some, Ok};
 ghost use Rattle.std.specs.Option.{unwrap_or};
 ghost use Rattle.parts.specs.Rows.{row_marks};
 ghost use Rattle.shelf.specs.Meaning.{row_at, marks_of_place};
@@ -24,15 +24,25 @@ pub fn is_forgotten(forget: Forgetting, marks: usize, unsettled: usize) -> bool
 }
 
 // How many marks of the lesson in a place are open under the trail.
+#[tactic(auto, using(shelf::proofs::Passed::none_passed, crate::proofs::Lessons::open_none, crate::proofs::Lessons::open_end))]
 fn open_marks<S: Shelf>(shelf: &S, place: usize, marks: usize, trail: &Trail) -> usize
-    requires { Some marks ≡ marks_of_place (S.Shelf.meaning shelf.now) place }
+    requires { Ok (Some marks) ≡ marks_of_place (S.Shelf.meaning shelf.now) place }
     ensures { result ≡ open_count (settled_row trail.now.n trail.now.entries)
         (row_marks (unwrap_or (row_at (S.Shelf.meaning shelf.now) place) [])) }
 {
-    (1..=marks)
-        .filter_map(|k| shelf.mark(place, k))
-        .filter(|mark| trail.is_open(*mark))
-        .count()
+    let mut unsettled = 0;
+    let mut part = 0;
+    for passed in 0..marks {
+        // There is one: as many were counted.
+        let Ok(Some(mark)) = shelf.mark_after(place, passed, part) else {
+            break;
+        };
+        part = mark.part;
+        if trail.is_open(mark) {
+            unsettled += 1;
+        }
+    }
+    unsettled
 }
 
 // Whether the lesson in a place is cleared: it is forgotten, and no reason on the trail.
@@ -41,7 +51,7 @@ fn drops<S: Shelf>(shelf: &S, forget: Forgetting, trail: &Trail, place: usize) -
     ensures { result ≡ drops forget (settled_row trail.now.n trail.now.entries) trail.now.entries place
         (row_at (S.Shelf.meaning shelf.now) place) }
 {
-    let Some(marks) = shelf.marks(place) else {
+    let Ok(Some(marks)) = shelf.marks(place) else {
         return false;
     };
     let unsettled = open_marks(shelf, place, marks, trail);

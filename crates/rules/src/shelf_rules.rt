@@ -26,11 +26,11 @@ impl<S: Shelf> RuleList for ShelfRules<'_, S> {
 
     #[tactic(auto, using(std::proofs::lemmas::Grind::common_steps, std::proofs::lemmas::Option::gets))]
     fn marks(&self, rule: usize) -> Option<usize> {
-        self.0.marks(rule)
+        self.0.marks(rule).ok()?
     }
 
     #[tactic(auto, using(std::proofs::lemmas::Grind::common_steps, std::proofs::lemmas::Option::gets))]
-    fn mark(&self, rule: usize, place: usize) -> Option<Mark> {
-        self.0.mark(rule, place)
+    fn mark_after(&self, rule: usize, passed: usize, part: usize) -> Option<Mark> {
+        self.0.mark_after(rule, passed, part).ok()?
     }
 }

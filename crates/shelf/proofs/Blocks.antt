@@ -84,9 +84,6 @@ module _ {X : Type 0} (row : List X → Option (List ℕ)) (n p : ℕ) (xs : Lis
   pub row_read : row_at (read_by row n p xs) place ≡ option_and_then row (at_place (blocks (n + 1) p xs) place)
   row_read = grind (arith, unwrap_or-slice_get (map row (blocks (n + 1) p xs)) (place - 1) None, slice_get-map row (blocks (n + 1) p xs) (place - 1))
 
-  pub no_row : is_place p place ≡ false → row_at (read_by row n p xs) place ≡ None
-  no_row h = grind (arith, nat_tests, length_rows row n p xs, get_or_past (read_by row n p xs).rows (place - 1) None)
-
   pub code_read : (part : ℕ) → code_of_place (read_by row n p xs) place part ≡ cond (is_place p place && is_part n part) (Ok (option_map (λ r. get_or r (part - 1) 0) (option_and_then row (at_place (blocks (n + 1) p xs) place)))) (Err ShelfOutOfRange)
   code_read part = grind (arith, row_read, length_rows row n p xs)
 

@@ -1,3 +1,4 @@
+pub mod Passed
 mod Walks
 mod Blocks
 mod Marks

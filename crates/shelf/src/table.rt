@@ -1,5 +1,5 @@
 //! A shelf over a table that it owns: for each place a block of n + 1 entries.
-ghost use Rattle.std.specs.Prelude.{◌≡◌, ◌+◌, ◌-◌, ◌*◌, ◌≤◌, ◌++◌, min, IsTrue, IsFalse, length, drop, replicate, vec_len, MatchResult};
+ghost use Rattle.std.specs.Prelude.{◌≡◌, ◌+◌, ◌-◌, ◌*◌, ◌≤◌, ◌++◌, min, IsTrue, IsFalse, length, drop, replicate, vec_len, MatchResult, OnErr};
 ghost use Rattle.std.specs.List.{list_all};
 ghost use Rattle.parts.specs.declared.refusal.Refusal.TheVariants.{NotAShelf, ShelfOutOfRange};
 ghost use Rattle.shelf.specs.Meaning.{is_place, can_write, row_written, can_clear, place_emptied, done_or_25};
@@ -138,14 +138,19 @@ impl<E: Entry> Shelf for TableShelf<E> {
         }
     }
 
-    #[tactic(auto, using(crate::proofs::Blocks::no_row, crate::proofs::Blocks::row_read))]
-    fn marks(&self, place: usize) -> Option<usize> {
-        E::marks(self.block(place).ok()?)
+    #[tactic(auto, using(crate::proofs::Blocks::row_read, crate::specs::Proved::length_rows))]
+    fn marks(&self, place: usize) -> Result<Option<usize>, Refusal> {
+        Ok(E::marks(self.block(place)?))
     }
 
-    #[tactic(auto, using(crate::proofs::Blocks::no_row, crate::proofs::Blocks::row_read))]
-    fn mark(&self, place: usize, k: usize) -> Option<Mark> {
-        E::mark(self.block(place).ok()?, k)
+    #[tactic(auto, using(crate::proofs::Blocks::row_read, crate::specs::Proved::length_rows))]
+    fn mark(&self, place: usize, k: usize) -> Result<Option<Mark>, Refusal> {
+        Ok(E::mark(self.block(place)?, k))
+    }
+
+    #[tactic(auto, using(crate::proofs::Blocks::row_read, crate::specs::Proved::length_rows))]
+    fn mark_after(&self, place: usize, passed: usize, part: usize) -> Result<Option<Mark>, Refusal> {
+        Ok(E::mark_after(self.block(place)?, passed, part))
     }
 
     #[tactic(auto, using(crate::specs::Proved::length_rows, std::proofs::lemmas::Bool::Decides::nat_tests))]
@@ -153,6 +158,7 @@ impl<E: Entry> Shelf for TableShelf<E> {
         ensures answer { result ≡ done_or_25 (can_write (table_meaning self.old) place row.now) }
         ensures after { table_meaning self.new
             ≡ row_written (table_meaning self.old) place row.now }
+        ensures refused { OnErr result (self.new ≡ self.old) }
         ensures entries { (table_of self.new).items ≡ table_written self.old place row.now }
         ensures rest { table_rest self.new ≡ table_rest self.old }
     {
@@ -168,6 +174,7 @@ impl<E: Entry> Shelf for TableShelf<E> {
     fn clear(&mut self, place: usize) -> Result<(), Refusal>
         ensures answer { result ≡ done_or_25 (can_clear (table_meaning self.old) place) }
         ensures after { table_meaning self.new ≡ place_emptied (table_meaning self.old) place }
+        ensures refused { OnErr result (self.new ≡ self.old) }
         ensures entries { (table_of self.new).items ≡ table_cleared self.old place }
         ensures rest { table_rest self.new ≡ table_rest self.old }
     {

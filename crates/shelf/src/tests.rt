@@ -1,5 +1,5 @@
 //! The same calls on each kind of shelf.
-ghost use Rattle.std.specs.Prelude.{◌≡◌, IsTrue, IsFalse, drop, vec_len, MatchResult};
+ghost use Rattle.std.specs.Prelude.{◌≡◌, IsTrue, IsFalse, drop, vec_len, MatchResult, OnErr};
 ghost use Rattle.parts.specs.declared.refusal.Refusal.TheVariants.{NotAShelf};
 ghost use Rattle.shelf.specs.Meaning.{can_write, row_written, can_clear, place_emptied, done_or_25};
 ghost use Rattle.shelf.specs.Table.{entries_of, can_make, empty_shelf};
@@ -36,6 +36,7 @@ fn new_grid(n: usize, places: usize, table: Vec<u8>) -> Result<GridShelf, Refuse
 fn write_grid(shelf: &mut GridShelf, place: usize, row: &[u8]) -> Result<(), Refusal>
     ensures answer { result ≡ done_or_25 (can_write (grid_meaning shelf.old) place row.now) }
     ensures after { grid_meaning shelf.new ≡ row_written (grid_meaning shelf.old) place row.now }
+    ensures refused { OnErr result (shelf.new ≡ shelf.old) }
     ensures rest { grid_rest shelf.new ≡ grid_rest shelf.old }
 {
     shelf.write(place, row)
@@ -44,6 +45,7 @@ fn write_grid(shelf: &mut GridShelf, place: usize, row: &[u8]) -> Result<(), Ref
 fn clear_grid(shelf: &mut GridShelf, place: usize) -> Result<(), Refusal>
     ensures answer { result ≡ done_or_25 (can_clear (grid_meaning shelf.old) place) }
     ensures after { grid_meaning shelf.new ≡ place_emptied (grid_meaning shelf.old) place }
+    ensures refused { OnErr result (shelf.new ≡ shelf.old) }
     ensures rest { grid_rest shelf.new ≡ grid_rest shelf.old }
 {
     shelf.clear(place)
@@ -65,6 +67,7 @@ fn new_list(n: usize, places: usize, table: Vec<u16>) -> Result<ListShelf, Refus
 fn write_list(shelf: &mut ListShelf, place: usize, row: &[u8]) -> Result<(), Refusal>
     ensures answer { result ≡ done_or_25 (can_write (list_meaning shelf.old) place row.now) }
     ensures after { list_meaning shelf.new ≡ row_written (list_meaning shelf.old) place row.now }
+    ensures refused { OnErr result (shelf.new ≡ shelf.old) }
     ensures rest { list_rest shelf.new ≡ list_rest shelf.old }
 {
     shelf.write(place, row)
@@ -73,6 +76,7 @@ fn write_list(shelf: &mut ListShelf, place: usize, row: &[u8]) -> Result<(), Ref
 fn clear_list(shelf: &mut ListShelf, place: usize) -> Result<(), Refusal>
     ensures answer { result ≡ done_or_25 (can_clear (list_meaning shelf.old) place) }
     ensures after { list_meaning shelf.new ≡ place_emptied (list_meaning shelf.old) place }
+    ensures refused { OnErr result (shelf.new ≡ shelf.old) }
     ensures rest { list_rest shelf.new ≡ list_rest shelf.old }
 {
     shelf.clear(place)
@@ -85,11 +89,11 @@ struct Walked {
 }
 
 impl Shelf for Walked {
-    ghost use Rattle.shelf.specs.Proved.{table_sound};
+    ghost use Rattle.shelf.specs.Proved.{table_sound, codes_sound};
 
     ghost meaning = { λ s. grid_meaning s.grid };
 
-    ghost sound = { λ s. table_sound read_codes s.grid.n (formed_codes s.grid.n) (λ block h. h)
+    ghost sound = { λ s. table_sound read_codes s.grid.n (formed_codes s.grid.n) (codes_sound s.grid.n)
         s.grid.places (vec_len s.grid.table) s.grid.table.items s.grid.sized s.grid.kept };
 
     fn n(&self) -> usize {
@@ -117,7 +121,9 @@ impl Shelf for Walked {
 fn starts_empty<S: Shelf>(rt: &impl Abort, shelf: &mut S) {
     assert_eq!(rt; shelf.n(), 3);
     assert_eq!(rt; shelf.places(), 4);
-    assert_eq!(rt; shelf.marks(2), None);
+    assert_eq!(rt; shelf.marks(2), Ok(None));
+    assert_eq!(rt; shelf.marks(0), Err(OUTSIDE));
+    assert_eq!(rt; shelf.mark(5, 1), Err(OUTSIDE));
     assert_eq!(rt; shelf.write(1, &[1, 3, 1]), Err(OUTSIDE));
     assert_eq!(rt; shelf.code(5, 1), Err(OUTSIDE));
 }
@@ -127,8 +133,10 @@ fn keeps_rows<S: Shelf>(rt: &impl Abort, shelf: &mut S) {
     assert_eq!(rt; shelf.write(2, &[2, 0, 1]), Ok(()));
     assert_eq!(rt; shelf.write(4, &[0, 0, 0]), Ok(()));
     assert_eq!(rt; shelf.code(2, 1), Ok(Some(2)));
-    assert_eq!(rt; shelf.marks(2), Some(2));
-    assert_eq!(rt; shelf.mark(2, 2), Some(IN_3));
+    assert_eq!(rt; shelf.marks(2), Ok(Some(2)));
+    assert_eq!(rt; shelf.mark(2, 2), Ok(Some(IN_3)));
+    assert_eq!(rt; shelf.mark(2, 3), Ok(None));
+    assert_eq!(rt; shelf.mark_after(2, 1, 1), Ok(Some(IN_3)));
     assert_eq!(rt; shelf.code(3, 1), Ok(None));
 }
 
@@ -136,8 +144,8 @@ fn keeps_rows<S: Shelf>(rt: &impl Abort, shelf: &mut S) {
 fn clears_one<S: Shelf>(rt: &impl Abort, shelf: &mut S) {
     assert_eq!(rt; shelf.clear(2), Ok(()));
     assert_eq!(rt; shelf.code(2, 1), Ok(None));
-    assert_eq!(rt; shelf.mark(2, 1), None);
-    assert_eq!(rt; shelf.marks(4), Some(0));
+    assert_eq!(rt; shelf.mark(2, 1), Ok(None));
+    assert_eq!(rt; shelf.marks(4), Ok(Some(0)));
 }
 
 // All of these.
