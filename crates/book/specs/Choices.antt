@@ -1,4 +1,5 @@
--- Full choices (total assignments): which rules one meets, which holds one keeps, and the choice that a row shows.
+-- Full choices (total assignments): which rules one meets, which holds one keeps, and the choice
+-- that a row shows.
 use Rattle.std.specs.Prelude.{◌≡◌, ℕ, suc, Bool, IsTrue, List, [], ◌∷◌, Some, None, Option}
 use Rattle.std.specs.List.{All, Any, Contains, list_all, list_any, range_with_len}
 use Rattle.parts.specs.Codes.{code_of, is_row}
@@ -57,14 +58,16 @@ codes_of f (p ∷ ps) = code_of (f p) ∷ codes_of f ps
 abbrev pub row_of : ℕ → Choice → Row
 row_of n f = codes_of f (range_with_len 1 n)
 
--- A row shows a choice that fits: it puts every part in or out, meets every rule and keeps every hold.
+-- A row shows a choice that fits: it puts every part in or out, meets every rule and keeps every
+-- hold.
 pub record ShowsFit (b : RuleBook) (hs : List Mark) (row : Row) : Type 0 where
   pub long : IsTrue (is_row b.n row)
   pub full : IsTrue (is_full row)
   pub obeys : Obeys b.rules (shown row)
   pub keeps : Keeps hs (shown row)
 
--- A row names holds that leave no choice: each is one of the holds, and no full choice that meets every rule keeps them all.
+-- A row names holds that leave no choice: each is one of the holds, and no full choice that meets
+-- every rule keeps them all.
 pub record NamesClash (b : RuleBook) (hs : List Mark) (row : Row) : Type 0 where
   pub long : IsTrue (is_row b.n row)
   pub held : All (Contains hs) (row_marks row)

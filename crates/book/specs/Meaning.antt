@@ -1,4 +1,5 @@
--- What a book means: n parts, and its rules as lists of marks (a formula in conjunctive normal form, its clauses as lists of literals).
+-- What a book means: n parts, and its rules as lists of marks (a formula in conjunctive normal
+-- form, its clauses as lists of literals).
 use Rattle.std.specs.Prelude.{ℕ, ◌+◌, ◌≤◌, Bool, IsTrue, List, [], ◌∷◌, length, Option}
 use Rattle.std.specs.List.{list_all}
 use Rattle.std.specs.Option.{option_map, option_and_then}

@@ -1,4 +1,5 @@
--- Nothing in this module needs to be believed: it proves that the makes are sound, which the checker wants beside the definitions.
+-- Nothing in this module needs to be believed: it proves that the makes are sound, which the
+-- checker wants beside the definitions.
 use Rattle.std.specs.Prelude.{◌≡◌, ℕ, suc, ◌+◌, ◌≤◌, min, IsTrue, true, List, [], ◌∷◌, ◌++◌, length, take, ℤ, ◌==◌, nat_le, refl}
 use Rattle.std.proofs.Common.{ap, arith, ◌∙◌, length-append, length-take}
 use Rattle.std.proofs.lemmas.Bool.{and_parts, and_from, eqb-true, leb-true}
@@ -23,7 +24,8 @@ pub record BookParts (n m : ℕ) (marks : List ℤ) (ends : List ℕ) : Type 0 w
   pub rises : IsTrue (rising (marks_limit (length marks)) 0 (take m ends))
   pub rules_sound : IsTrue (sound_rules n (book_in n m marks ends).rules)
 
-pub book_parts : (n m : ℕ) (marks : List ℤ) (ends : List ℕ) → has_book n m marks ends ≡ true → BookParts n m marks ends
+pub book_parts : (n m : ℕ) (marks : List ℤ) (ends : List ℕ) → has_book n m marks ends ≡ true
+    → BookParts n m marks ends
 book_parts n m marks ends h =
     let p = and_parts _ _ h in
     let q = and_parts _ _ p.0 in
@@ -43,15 +45,23 @@ pub length-cut : (from : ℕ) (es : List ℕ) (ms : List Mark) → length (cut f
 length-cut from [] ms = refl
 length-cut from (e ∷ es) ms = ap suc (length-cut e es ms)
 
-pub book_in_sound : (n m : ℕ) (marks : List ℤ) (ends : List ℕ) → has_book n m marks ends ≡ true → Sound (book_in n m marks ends)
+pub book_in_sound : (n m : ℕ) (marks : List ℤ) (ends : List ℕ) → has_book n m marks ends ≡ true
+    → Sound (book_in n m marks ends)
 book_in_sound n m marks ends h =
     let l = book_parts n m marks ends h in
-    record { some = l.some; few = l.few; rules_few = simp (length-cut, length-take) (omega arith); rules_sound = l.rules_sound }
+    record {
+      some = l.some;
+      few = l.few;
+      rules_few = simp (length-cut, length-take) (omega arith);
+      rules_sound = l.rules_sound;
+    }
 
-pub sound_rules-append : (n : ℕ) (rs ss : List Rule) → sound_rules n rs ≡ true → sound_rules n ss ≡ true → sound_rules n (rs ++ ss) ≡ true
+pub sound_rules-append : (n : ℕ) (rs ss : List Rule) → sound_rules n rs ≡ true
+    → sound_rules n ss ≡ true → sound_rules n (rs ++ ss) ≡ true
 sound_rules-append n rs ss h k = list_all-append (sound_rule n) rs ss ∙ and_from _ _ h k
 
-pub joined_sound : (f s : RuleBook) → joinable f s ≡ true → Sound f → Sound s → Sound (both_rules f s)
+pub joined_sound : (f s : RuleBook) → joinable f s ≡ true → Sound f → Sound s
+    → Sound (both_rules f s)
 joined_sound f s h p q =
     let j = and_parts (f.n == s.n) (nat_le (length f.rules + length s.rules) MOST_RULES) h in
     let e = eqb-true f.n s.n j.0 in

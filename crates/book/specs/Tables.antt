@@ -24,16 +24,17 @@ rising limit from (e ∷ es) = nat_le from e && rising limit e es
 abbrev pub marks_limit : ℕ → ℕ
 marks_limit marks = min MOST_TEXT_MARKS marks
 
--- whether there is a book of n parts and m rules in the tables:
--- n from 1 to 120, at most 4,000 rules with an end each, ends that do not fall and stay within the table and 16,000 marks,
--- and in each rule parts from 1 to n, none twice (so a mark 0 is refused too)
+-- whether there is a book of n parts and m rules in the tables: n from 1 to 120, at most 4,000
+-- rules with an end each, ends that do not fall and stay within the table and 16,000 marks, and in
+-- each rule parts from 1 to n, none twice (so a mark 0 is refused too)
 abbrev pub has_book : ℕ → ℕ → List ℤ → List ℕ → Bool
 has_book n m marks ends =
     (is_part MOST_PARTS n && (nat_le m MOST_TEXT_RULES && nat_le m (length ends)))
     && (rising (marks_limit (length marks)) 0 (take m ends)
     && sound_rules n (book_in n m marks ends).rules)
 
--- the tables that a list of rules fills: its marks one after another, and where each rule's marks end
+-- the tables that a list of rules fills: its marks one after another, and where each rule's marks
+-- end
 abbrev pub mark_table : List Rule → List ℤ
 mark_table rs = flat_map (map number_from) rs
 

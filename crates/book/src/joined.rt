@@ -20,10 +20,17 @@ impl<F: Book, S: Book> Joined<F, S> {
     /// Joins two books: the first's rules come before the second's.
     /// Refused with 11 where they differ in n, else with 12 where they have more than 20,000 rules together; both books then come back.
     pub fn new(first: F, second: S) -> Result<Joined<F, S>, Refused<(F, S)>>
-        ensures joined { MatchResult result (λ j. IsTrue (joinable (F.meaning first) (S.meaning second))) (λ e. IsFalse (joinable (F.meaning first) (S.meaning second))) }
+        ensures joined { MatchResult result
+            (λ j. IsTrue (joinable (F.meaning first) (S.meaning second)))
+            (λ e. IsFalse (joinable (F.meaning first) (S.meaning second))) }
         ensures value { MatchResult result
-            (λ j. (books_of j ≡ (first, second)) × (joined_book j ≡ both_rules (F.meaning first) (S.meaning second)))
-            (λ e. e ≡ record { refusal = join_refusal (F.meaning first) (S.meaning second); back = (first, second) }) }
+            (λ j. (books_of j ≡ (first, second))
+            × (joined_book j ≡ both_rules (F.meaning first) (S.meaning second)))
+            (λ e. e
+            ≡ record {
+              refusal = join_refusal (F.meaning first) (S.meaning second);
+              back = (first, second);
+            }) }
     {
         if first.n() != second.n() {
             return Err(Refused {
@@ -55,7 +62,9 @@ impl<F: Book, S: Book> Book for Joined<F, S> {
 
     ghost meaning = { joined_book };
 
-    ghost sound = { λ j. joined_sound (F.meaning j.first) (S.meaning j.second) j.fit (F.sound j.first) (S.sound j.second) };
+    ghost sound = { λ j. joined_sound (F.meaning j.first) (S.meaning j.second) j.fit
+        (F.sound j.first)
+        (S.sound j.second) };
 
     fn n(&self) -> usize {
         self.first.n()

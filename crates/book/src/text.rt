@@ -36,9 +36,12 @@ impl TextBook {
     /// A book of n parts over the tables, its rules cut by the first ends; what stands after them is never read.
     /// Refused with 10, and the tables come back, where they have no such book.
     pub fn new(n: usize, rules: usize, tables: Tables) -> Result<TextBook, Refused<Tables>>
-        ensures made { MatchResult result (λ _. IsTrue (has_book n rules tables.marks.items tables.ends.items)) (λ _. IsFalse (has_book n rules tables.marks.items tables.ends.items)) }
+        ensures made { MatchResult result
+            (λ _. IsTrue (has_book n rules tables.marks.items tables.ends.items))
+            (λ _. IsFalse (has_book n rules tables.marks.items tables.ends.items)) }
         ensures value { MatchResult result
-            (λ b. (text_book b ≡ book_in n rules tables.marks.items tables.ends.items) × (tables_of b ≡ tables))
+            (λ b. (text_book b ≡ book_in n rules tables.marks.items tables.ends.items)
+            × (tables_of b ≡ tables))
             (λ e. e ≡ record { refusal = NotABook; back = tables }) }
     {
         if !has_book(n, rules, &tables) {
@@ -60,7 +63,8 @@ impl TextBook {
     // The marks of a rule, as they stand in the table; nothing where there is no such rule.
     #[tactic(auto, using(crate::proofs::Spans::cut_at, crate::proofs::Spans::no_rule))]
     fn numbers(&self, rule: usize) -> Option<&[i16]>
-        ensures { option_map (λ numbers. map mark_from numbers.now) result ≡ at_place (text_book self.now).rules rule }
+        ensures { option_map (λ numbers. map mark_from numbers.now) result
+            ≡ at_place (text_book self.now).rules rule }
     {
         if rule == 0 || rule > self.rules {
             return None;

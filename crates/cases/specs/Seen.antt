@@ -30,7 +30,8 @@ pub record Weight : Type 0 where
   pub marks : ℕ
   pub unsettled : ℕ
 
--- what a search under the holds of a bench sheet ends with, and the printed lines of the parts that its row names
+-- what a search under the holds of a bench sheet ends with, and the printed lines of the parts that
+-- its row names
 pub record End : Type 0 where
   pub report : Report
   pub row : Row
@@ -53,7 +54,8 @@ text_reads bytes = text (reads bytes)
 abbrev pub bays_of : List ℕ → Seen
 bays_of widths = bays (bay_book widths)
 
--- a bench, and its session after calls, where the picker puts the lowest open part out and the shelf has four empty places
+-- a bench, and its session after calls, where the picker puts the lowest open part out and the
+-- shelf has four empty places
 abbrev pub bench : RuleBook → Forgetting → Bench
 bench b f = record { book = b; forget = f }
 
@@ -62,7 +64,9 @@ after b cs = calls b cs (opened (lowest_picks b.book.n) (empty_shelf b.book.n 4)
 
 -- what is seen of a session in some state
 abbrev pub seen : Bench → Machine → After
-seen b m = record { verdict = m.verdict; choice = row b.book.n m.trail; steps = m.steps; turns = m.turns; shelf = m.shelf.rows }
+seen b m =
+    record { verdict = m.verdict; choice = row b.book.n m.trail; steps = m.steps; turns = m.turns;
+    shelf = m.shelf.rows }
 
 -- what is seen after calls, under a forgetting rule
 abbrev pub makes : RuleBook → Forgetting → List Call → Seen
@@ -85,7 +89,8 @@ sheet_reads n bytes = sheet (sheet_of n bytes)
 
 -- how a search under the holds of a sheet ends
 abbrev pub end_by : Report → Row → Said → End
-end_by r named s = record { report = r; row = named; lines = parts_text (word_text r.answer) named 0 s.names }
+end_by r named s =
+    record { report = r; row = named; lines = parts_text (word_text r.answer) named 0 s.names }
 
 -- the search under a sheet, or the sheet's fault
 abbrev pub repaired_on : RuleBook → Result Said Fault → Result End Fault

@@ -4,6 +4,8 @@ pub mod RuleLines
 pub mod Accepted
 pub mod Back
 pub mod RuleFaults
+pub mod CutLaws
 pub mod RestFaults
+pub mod HeadFaults
 pub mod FirstFaults
 pub mod CasesByComputing

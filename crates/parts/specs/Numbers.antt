@@ -1,4 +1,5 @@
--- The number of each refusal, the one place where the list's numbers stand; and how refusals and faults are printed.
+-- The number of each refusal, the one place where the list's numbers stand; and how refusals and
+-- faults are printed.
 use Rattle.std.specs.Prelude.{ℕ, List, ◌∷◌, ◌++◌, decimal}
 use Rattle.parts.specs.declared.fault.Fault.{Fault}
 use Rattle.parts.specs.declared.refusal.Refusal.{Refusal}

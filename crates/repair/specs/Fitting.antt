@@ -1,4 +1,5 @@
--- What is printed of two files, from their bytes: THE WHOLE TEXT, refusals and absent files included.
+-- What is printed of two files, from their bytes: THE WHOLE TEXT, refusals and absent files
+-- included.
 use Rattle.std.specs.Prelude.{ℕ, List, [], Ok, Err, Option, Result}
 use Rattle.std.specs.Option.{unwrap_or}
 use Rattle.parts.specs.declared.fault.Fault.{Fault}

@@ -19,7 +19,8 @@ word_text Spent = codes "held"
 
 -- word, number, side and name, with one tab (9) between them and a line feed (10) at the end
 abbrev pub side_line : List ℕ → ℕ → List ℕ → Side → List ℕ
-side_line word part name side = word ++ (9 ∷ decimal part ++ (9 ∷ side_text side ++ (9 ∷ name ++ 10 ∷ [])))
+side_line word part name side =
+    word ++ (9 ∷ decimal part ++ (9 ∷ side_text side ++ (9 ∷ name ++ 10 ∷ [])))
 
 -- the line of a part with this code; none for code 0
 abbrev pub line_by : List ℕ → ℕ → List ℕ → Option Side → List ℕ
@@ -38,7 +39,10 @@ parts_text word row i (name ∷ names) =
 -- verdict, steps and turns, a line each
 abbrev pub report_text : Report → List ℕ
 report_text r =
-    codes "verdict\t" ++ (answer_text r.answer ++ (codes "\nsteps\t" ++ (decimal r.steps ++ (codes "\nturns\t" ++ (decimal r.turns ++ codes "\n")))))
+    codes "verdict\t"
+        ++ (answer_text r.answer
+        ++ (codes "\nsteps\t"
+        ++ (decimal r.steps ++ (codes "\nturns\t" ++ (decimal r.turns ++ codes "\n")))))
 
 -- then the parts of a choice that fits, or the holds that leave none, by rising part
 abbrev pub solution_text : Report → List ℕ → List Piece → List ℕ

@@ -22,9 +22,11 @@ use Rattle.repair.specs.declared.repair.Repair.{Repair}
 abbrev pub bench : RuleBook → Bench
 bench b = record { book = b; forget = KeepAll }
 
--- the state after one run of 1,000,000 steps under these holds, from an empty shelf of 256 places, the lowest open part picked first
+-- the state after one run of 1,000,000 steps under these holds, from an empty shelf of 256 places,
+-- the lowest open part picked first
 abbrev pub end_state : RuleBook → List Mark → Machine
-end_state b hs = solved (bench b) (lowest_picks b.n) (empty_shelf b.n MOST_TABLE_PLACES) hs MOST_BUDGET
+end_state b hs =
+    solved (bench b) (lowest_picks b.n) (empty_shelf b.n MOST_TABLE_PLACES) hs MOST_BUDGET
 
 -- a row of n codes that says nothing yet
 abbrev pub blank : ℕ → Row
@@ -34,8 +36,9 @@ blank n = replicate n 0
 abbrev pub end_row : RuleBook → List Mark → Row
 end_row b hs = solved_row b.n (end_state b hs) (blank b.n)
 
--- What a search under holds returns: report and row are those of the search by definition; and they are true: a choice that
--- fits, or holds that leave none, and never "spent" where most_steps n is at most 1,000,000 (so where n is at most 15).
+-- What a search under holds returns: report and row are those of the search by definition; and they
+-- are true: a choice that fits, or holds that leave none, and never "spent" where most_steps n is
+-- at most 1,000,000 (so where n is at most 15).
 pub record SolvedUnder (b : RuleBook) (hs : List Mark) (s : Solution) : Type 0 where
   pub report : s.report ≡ report_of (end_state b hs)
   pub row : vec_items s.row ≡ end_row b hs
@@ -47,10 +50,12 @@ reads text = read_of MOST_TEXT_MARKS MOST_TEXT_RULES text
 
 -- a sheet's text stands for names and holds, in the grammar
 abbrev pub StandsFor : ℕ → Said → List ℕ → Type 0
-StandsFor n s text = (names : List (List ℕ)) × (s.names ≡ sheets.placed 0 1 names) × sheets.Format n names s.holds text
+StandsFor n s text =
+    (names : List (List ℕ)) × (s.names ≡ sheets.placed 0 1 names)
+    × sheets.Format n names s.holds text
 
--- THE PROMISE. The texts stand for a book and for a sheet of its parts, as they read and in the grammar, and the search under
--- the sheet's holds has this solution.
+-- THE PROMISE. The texts stand for a book and for a sheet of its parts, as they read and in the
+-- grammar, and the search under the sheet's holds has this solution.
 pub record Repaired (text sheet : List ℕ) (r : Repair) : Type 0 where
   pub book : RuleBook
   pub is_book : reads text ≡ Ok book

@@ -29,7 +29,8 @@ refuses_holds n hs rest =
     if_so (not (list_all (λ h. is_part n h.part) hs)) PartOutOfRange
     (if_so (names_twice hs) AlreadyHeld rest)
 
--- all is judged before anything is changed: the opening, the holds, the budget, and the row's length
+-- all is judged before anything is changed: the opening, the holds, the budget, and the row's
+-- length
 abbrev pub refuses_solve : Bench → Picks → Shelved → List Mark → ℕ → ℕ → Option Refusal
 refuses_solve b p s hs k len =
     option_or (refuses_open b.book.n p.n s.n b.forget)
@@ -39,7 +40,8 @@ refuses_solve b p s hs k len =
 abbrev pub solved : Bench → Picks → Shelved → List Mark → ℕ → Machine
 solved b p s hs k = run b k (restarted (opened p s) hs)
 
--- the row at the end: the choice that fits, or the holds that clash; as it was where the budget is spent
+-- the row at the end: the choice that fits, or the holds that clash; as it was where the budget is
+-- spent
 abbrev pub row_by : Verdict → Row → Row → Row
 row_by working now old = old
 row_by fits now old = now
@@ -48,9 +50,11 @@ row_by (none_fits r) now old = r
 abbrev pub solved_row : ℕ → Machine → Row → Row
 solved_row n m old = row_by m.verdict (row n m.trail) old
 
--- WHAT IT MEANS, in the report's answer: the row shows a choice that fits, or names holds that leave none, or is as it was;
--- turns and steps are bounded; and a budget of most_steps is never spent.
-pub record SolvedTruly (b : RuleBook) (hs : List Mark) (k : ℕ) (old new : Row) (r : Report) : Type 0 where
+-- WHAT IT MEANS, in the report's answer: the row shows a choice that fits, or names holds that
+-- leave none, or is as it was; turns and steps are bounded; and a budget of most_steps is never
+-- spent.
+pub record SolvedTruly (b : RuleBook) (hs : List Mark) (k : ℕ) (old new : Row)
+    (r : Report) : Type 0 where
   pub shows : Shows r.answer b hs old new
   pub turns : r.turns ≤ most_turns b.n
   pub steps : r.steps ≤ most_steps b.n

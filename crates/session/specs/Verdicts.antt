@@ -1,4 +1,5 @@
--- What stands of a session, as the search by definition has it: of the row of the named holds the first n codes count.
+-- What stands of a session, as the search by definition has it: of the row of the named holds the
+-- first n codes count.
 use Rattle.std.specs.Prelude.{ℕ, take}
 use Rattle.search.specs.Machine as machine
 use Rattle.session.specs.declared.verdict.Verdict.{Verdict}

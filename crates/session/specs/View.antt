@@ -44,8 +44,10 @@ module _ {B P S : Type 0} {b : books.Ghosts B} {p : pickers.Ghosts P} {s : shelv
   abbrev pub Kept : Session B P S b p s → Session B P S b p s → Type 0
   Kept x y = (book_of y ≡ book_of x) × (picker_of y ≡ picker_of x) × (forget_of y ≡ forget_of x)
 
-  -- What an opening returns: a session over the three, as the search opens; or the first refusal, and all three as they were.
-  abbrev pub Opened : B → P → S → Forgetting → Result (Session B P S b p s) (Refused (B × P × S)) → Type 0
+  -- What an opening returns: a session over the three, as the search opens; or the first refusal,
+  -- and all three as they were.
+  abbrev pub Opened : B → P → S → Forgetting → Result (Session B P S b p s) (Refused (B × P × S))
+      → Type 0
   Opened book picker shelf f (Ok x) =
       (refuses_open (b.meaning book).n (p.meaning picker).n (s.meaning shelf).n f ≡ None)
       × (book_of x ≡ book) × (picker_of x ≡ picker) × (forget_of x ≡ f)
@@ -66,12 +68,14 @@ pub record Assured (b : Bench) (m : Machine) : Type 0 where
   pub steps : m.steps ≤ most_steps b.book.n
   pub below : IsFalse (stands m.verdict) → m.steps < most_steps b.book.n
 
--- a run that is spent took just its budget, and is below the bound: so a verdict comes once the budgets add up to it
+-- a run that is spent took just its budget, and is below the bound: so a verdict comes once the
+-- budgets add up to it
 abbrev pub SpentBelow : ℕ → ℕ → ℕ → Report → Type 0
-SpentBelow n before budget r = r.answer ≡ Spent → (r.steps ≡ before + budget) × (r.steps < most_steps n)
+SpentBelow n before budget r =
+    r.answer ≡ Spent → (r.steps ≡ before + budget) × (r.steps < most_steps n)
 
--- THE LAW on a call, over all lists of calls: whichever calls led from a fresh state to the state before it, all that the search
--- promises holds of the state after it.
+-- THE LAW on a call, over all lists of calls: whichever calls led from a fresh state to the state
+-- before it, all that the search promises holds of the state after it.
 abbrev pub PromisedAfter : Bench → Machine → Call → Machine → Type 0
 PromisedAfter b m c n =
     (start : Machine) (cs : List Call) → Fresh b start → m ≡ calls b cs start

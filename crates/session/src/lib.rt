@@ -3,6 +3,7 @@
 
 mod budget;
 mod moves;
+mod opening;
 mod search_state;
 mod session;
 mod verdict;

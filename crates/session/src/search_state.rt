@@ -1,13 +1,13 @@
 //! A search under way: what it was opened with, and its state; the whole step on one page.
 ghost use Rattle.std.specs.Prelude.{◌≡◌, ◌≤◌, [], IsTrue};
 ghost use Rattle.parts.specs.Distinct.{is_distinct};
-ghost use Rattle.search.specs.Calls.{emptied, in_range, ok_unless, refuses_open};
 ghost use Rattle.trail.specs.Settling.{can_settle};
 ghost use Rattle.session.specs.Moving.{as_move, Settles, move_by_holds};
 ghost use Rattle.parts.specs.declared.limits.TheConstants.{MOST_STEPS};
 
 use crate::budget::check_budget;
 use crate::moves::Move;
+use crate::opening::clear_all;
 use crate::verdict::Verdict;
 use book::Book;
 use lessons::{next_place, sweep};
@@ -68,7 +68,8 @@ impl<B: Book, P: Picker, S: Shelf> Search<B, P, S> {
         requires same_picker { (P.meaning picker).n ≡ (B.meaning book).n }
         requires same_shelf { (S.meaning shelf).n ≡ (B.meaning book).n }
         requires held { IsTrue (is_distinct (B.meaning book).n holds) }
-        ensures state { state_in result ≡ restarted (opened (P.meaning picker) (S.meaning shelf)) holds }
+        ensures state { state_in result
+            ≡ restarted (opened (P.meaning picker) (S.meaning shelf)) holds }
         ensures kept { (result.book ≡ book) × (result.picker ≡ picker) × (result.forget ≡ forget) }
     {
         clear_all(&mut shelf);
@@ -164,7 +165,8 @@ impl<B: Book, P: Picker, S: Shelf> Search<B, P, S> {
     #[tactic(auto, using(crate::proofs::Steps::empty_front, crate::proofs::Steps::turned_same), unfolding(search::specs::Machine::act))]
     fn turn_on(&mut self, reason: Reason)
         requires { Going self.old }
-        ensures after { state_in self.new ≡ act (bench_in self.old) (state_in self.old) (turn_on reason) }
+        ensures after { state_in self.new
+            ≡ act (bench_in self.old) (state_in self.old) (turn_on reason) }
         ensures kept { Kept self.old self.new }
     {
         let n = self.book.n();
@@ -186,7 +188,9 @@ impl<B: Book, P: Picker, S: Shelf> Search<B, P, S> {
     #[tactic(auto, using(crate::proofs::Steps::swept_parts), unfolding(search::specs::Machine::turned))]
     fn learn(&mut self, picked: Mark, work: &[u8])
         requires { Going self.old × IsTrue (can_settle self.old.trail picked) }
-        ensures after { state_in self.new ≡ turned (bench_in self.old) (state_in self.old) (stop picked work.now self.old.trail.entries) }
+        ensures after { state_in self.new
+            ≡ turned (bench_in self.old) (state_in self.old)
+            (stop picked work.now self.old.trail.entries) }
         ensures kept { Kept self.old self.new }
     {
         self.steps += 1;
@@ -204,7 +208,8 @@ impl<B: Book, P: Picker, S: Shelf> Search<B, P, S> {
     #[tactic(auto, using(crate::proofs::Steps::named_front), unfolding(search::specs::Machine::turned))]
     fn end(&mut self, work: &[u8])
         requires { Going self.old × (self.old.trail.entries ≡ []) }
-        ensures after { state_in self.new ≡ turned (bench_in self.old) (state_in self.old) (bottom work.now) }
+        ensures after { state_in self.new
+            ≡ turned (bench_in self.old) (state_in self.old) (bottom work.now) }
         ensures kept { Kept self.old self.new }
     {
         self.steps += 1;
@@ -218,8 +223,10 @@ impl<B: Book, P: Picker, S: Shelf> Search<B, P, S> {
     // Holds a part on the side of a code, 1 in or 2 out; the search starts again.
     #[tactic(auto, using(std::proofs::lemmas::Bool::Decides::nat_tests, std::proofs::lemmas::Result::err_from_is_err_and, crate::proofs::Steps::held_more), unfolding(search::specs::Calls::call, search::specs::Calls::refuses, search::specs::Calls::accepted, search::specs::Calls::restarted))]
     pub(crate) fn hold(&mut self, part: usize, code: u64) -> Result<(), Refusal>
-        ensures answer { result ≡ call_reply (bench_in self.old) (state_in self.old) (held part code) }
-        ensures after { state_in self.new ≡ call (bench_in self.old) (held part code) (state_in self.old) }
+        ensures answer { result
+            ≡ call_reply (bench_in self.old) (state_in self.old) (held part code) }
+        ensures after { state_in self.new
+            ≡ call (bench_in self.old) (held part code) (state_in self.old) }
         ensures kept { Kept self.old self.new }
     {
         if self.no_part(part) {
@@ -237,7 +244,8 @@ impl<B: Book, P: Picker, S: Shelf> Search<B, P, S> {
     #[tactic(auto, using(std::proofs::lemmas::Bool::Decides::nat_tests, crate::proofs::Steps::held_less), unfolding(search::specs::Calls::call, search::specs::Calls::refuses, search::specs::Calls::accepted, search::specs::Calls::restarted))]
     pub(crate) fn release(&mut self, part: usize) -> Result<(), Refusal>
         ensures answer { result ≡ call_reply (bench_in self.old) (state_in self.old) (let_out part) }
-        ensures after { state_in self.new ≡ call (bench_in self.old) (let_out part) (state_in self.old) }
+        ensures after { state_in self.new
+            ≡ call (bench_in self.old) (let_out part) (state_in self.old) }
         ensures kept { Kept self.old self.new }
     {
         if self.no_part(part) {
@@ -267,7 +275,8 @@ impl<B: Book, P: Picker, S: Shelf> Search<B, P, S> {
     #[tactic(auto, using(std::proofs::lemmas::Bool::Decides::nat_tests, crate::proofs::Steps::run_more, search::proofs::Promises::act_steps, search::proofs::Promises::run_stood_same), unfolding(search::specs::Calls::call, search::specs::Calls::refuses, search::specs::Calls::accepted, search::specs::Machine::run, search::specs::Machine::step))]
     pub(crate) fn run(&mut self, budget: usize) -> Result<Report, Refusal>
         ensures answer { result ≡ run_reply (bench_in self.old) (state_in self.old) budget }
-        ensures after { state_in self.new ≡ call (bench_in self.old) (run_for budget) (state_in self.old) }
+        ensures after { state_in self.new
+            ≡ call (bench_in self.old) (run_for budget) (state_in self.old) }
         ensures kept { Kept self.old self.new }
     {
         check_budget(budget)?;
@@ -315,7 +324,8 @@ impl<B: Book, P: Picker, S: Shelf> Search<B, P, S> {
     // The codes of the choice, where one fits.
     #[tactic(auto, using(search::proofs::Settled::length_row))]
     pub(crate) fn fitting_row(&self) -> Option<&[u8]>
-        ensures value { option_map (λ cs. cs.now) result ≡ fitting_row (bench_in self.now) (state_in self.now) }
+        ensures value { option_map (λ cs. cs.now) result
+            ≡ fitting_row (bench_in self.now) (state_in self.now) }
         ensures long { IfSome result (λ cs. length cs.now ≡ (bench_in self.now).book.n) }
     {
         match self.verdict {
@@ -361,47 +371,5 @@ fn move_by_holds(trail: &Trail, holds: &[Mark]) -> Move
         Move::Fit
     } else {
         Move::Ask
-    }
-}
-
-// Whether a session may be opened: book, picker and shelf have one n, and no forgetting number is above 120.
-pub(crate) fn check_opening<B: Book, P: Picker, S: Shelf>(
-    book: &B,
-    picker: &P,
-    shelf: &S,
-    forget: Forgetting,
-) -> Result<(), Refusal>
-    ensures { result ≡ ok_unless (refuses_open (B.meaning book.now).n (P.meaning picker.now).n (S.meaning shelf.now).n forget) tt }
-{
-    let n = book.n();
-    if n != picker.n() || n != shelf.n() {
-        return Err(Refusal::OpenPartsDiffer);
-    }
-    if !in_range(forget) {
-        return Err(Refusal::ForgettingOutOfRange);
-    }
-    Ok(())
-}
-
-// Whether no number of a forgetting rule is above 120.
-fn in_range(forget: Forgetting) -> bool
-    ensures { result ≡ in_range forget }
-{
-    match forget {
-        Forgetting::KeepAll => true,
-        Forgetting::Size(most) | Forgetting::Relevance(most) | Forgetting::Bounded(most) => {
-            most <= MOST_PARTS
-        }
-        Forgetting::Both(k, m) => k <= MOST_PARTS && m <= MOST_PARTS,
-    }
-}
-
-// Empties every place.
-#[tactic(auto, using(std::proofs::lemmas::Grind::common_steps, shelf::proofs::Filling::fill_more))]
-fn clear_all<S: Shelf>(shelf: &mut S)
-    ensures { S.Shelf.meaning shelf.new ≡ emptied (S.Shelf.meaning shelf.old) }
-{
-    for before in 0..shelf.places() {
-        let _ = shelf.clear(before + 1);
     }
 }

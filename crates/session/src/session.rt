@@ -5,7 +5,8 @@ ghost use Rattle.session.specs.Rows.{row_or, shown_codes, done};
 ghost use Rattle.session.specs.Inner.{bench_in, state_in};
 ghost use Rattle.session.specs.Reaching.{Reached};
 
-use crate::search_state::{Search, check_opening};
+use crate::opening::check_opening;
+use crate::search_state::Search;
 use book::Book;
 use parts::{Holds, Refusal, Refused};
 use picker::Picker;
@@ -61,10 +62,13 @@ impl<B: Book, P: Picker, S: Shelf> Session<B, P, S> {
         forget: Forgetting,
         holds: Holds,
     ) -> Session<B, P, S>
-        requires opens { refuses_open (B.meaning book).n (P.meaning picker).n (S.meaning shelf).n forget ≡ None }
+        requires opens { refuses_open (B.meaning book).n (P.meaning picker).n
+            (S.meaning shelf).n forget ≡ None }
         requires held { IsTrue (is_distinct (B.meaning book).n holds) }
-        ensures state { state_of result ≡ restarted (opened (P.meaning picker) (S.meaning shelf)) holds }
-        ensures kept { (book_of result ≡ book) × (picker_of result ≡ picker) × (forget_of result ≡ forget) }
+        ensures state { state_of result
+            ≡ restarted (opened (P.meaning picker) (S.meaning shelf)) holds }
+        ensures kept { (book_of result ≡ book) × (picker_of result ≡ picker)
+            × (forget_of result ≡ forget) }
     {
         Session {
             search: Search::new(book, picker, shelf, forget, holds),
@@ -89,11 +93,14 @@ impl<B: Book, P: Picker, S: Shelf> Session<B, P, S> {
     /// Refused with 17 where there is no such part, else with 18 where the code is no side's, else with 19 where the part is held.
     // Stays a code: a caller may give any number, and a bad one gets its refusal.
     pub fn hold(&mut self, part: usize, code: u64) -> Result<(), Refusal>
-        ensures answer { result ≡ call_reply (bench_of self.old) (state_of self.old) (held part code) }
-        ensures after { state_of self.new ≡ call (bench_of self.old) (held part code) (state_of self.old) }
+        ensures answer { result
+            ≡ call_reply (bench_of self.old) (state_of self.old) (held part code) }
+        ensures after { state_of self.new
+            ≡ call (bench_of self.old) (held part code) (state_of self.old) }
         ensures kept { Kept self.old self.new }
         ensures assured { Assured (bench_of self.new) (state_of self.new) }
-        ensures law { PromisedAfter (bench_of self.old) (state_of self.old) (held part code) (state_of self.new) }
+        ensures law { PromisedAfter (bench_of self.old) (state_of self.old) (held part code)
+            (state_of self.new) }
     {
         self.search.hold(part, code)
     }
@@ -102,10 +109,12 @@ impl<B: Book, P: Picker, S: Shelf> Session<B, P, S> {
     /// Refused with 17 where there is no such part, else with 20 where it is not held.
     pub fn release(&mut self, part: usize) -> Result<(), Refusal>
         ensures answer { result ≡ call_reply (bench_of self.old) (state_of self.old) (let_out part) }
-        ensures after { state_of self.new ≡ call (bench_of self.old) (let_out part) (state_of self.old) }
+        ensures after { state_of self.new
+            ≡ call (bench_of self.old) (let_out part) (state_of self.old) }
         ensures kept { Kept self.old self.new }
         ensures assured { Assured (bench_of self.new) (state_of self.new) }
-        ensures law { PromisedAfter (bench_of self.old) (state_of self.old) (let_out part) (state_of self.new) }
+        ensures law { PromisedAfter (bench_of self.old) (state_of self.old) (let_out part)
+            (state_of self.new) }
     {
         self.search.release(part)
     }
@@ -114,11 +123,14 @@ impl<B: Book, P: Picker, S: Shelf> Session<B, P, S> {
     /// Refused with 21 for a budget of 0 or above 1,000,000, else with 22 where no verdict stands and steps and budget exceed 50,000,000.
     pub fn run(&mut self, budget: usize) -> Result<Report, Refusal>
         ensures answer { result ≡ run_reply (bench_of self.old) (state_of self.old) budget }
-        ensures after { state_of self.new ≡ call (bench_of self.old) (run_for budget) (state_of self.old) }
+        ensures after { state_of self.new
+            ≡ call (bench_of self.old) (run_for budget) (state_of self.old) }
         ensures kept { Kept self.old self.new }
         ensures assured { Assured (bench_of self.new) (state_of self.new) }
-        ensures spent { IfOk result (SpentBelow (bench_of self.old).book.n (state_of self.old).steps budget) }
-        ensures law { PromisedAfter (bench_of self.old) (state_of self.old) (run_for budget) (state_of self.new) }
+        ensures spent { IfOk result
+            (SpentBelow (bench_of self.old).book.n (state_of self.old).steps budget) }
+        ensures law { PromisedAfter (bench_of self.old) (state_of self.old) (run_for budget)
+            (state_of self.new) }
     {
         self.search.run(budget)
     }
@@ -187,9 +199,13 @@ impl<B: Book, P: Picker, S: Shelf> Session<B, P, S> {
     /// Fills a row with the choice that a standing "fits" shows.
     /// Refused with 23 where the row is not n long, else with 24 where no "fits" stands; the row then stays.
     pub fn choice(&self, row: &mut [u8]) -> Result<(), Refusal>
-        ensures answer { result ≡ done (choice_row (bench_of self.now).book.n (state_of self.now) (length row.old)) }
-        ensures after { row.new ≡ row_or (choice_row (bench_of self.now).book.n (state_of self.now) (length row.old)) row.old }
-        ensures shows { OnOk result (ShowsFit (bench_of self.now).book (state_of self.now).holds row.new) }
+        ensures answer { result
+            ≡ done (choice_row (bench_of self.now).book.n (state_of self.now) (length row.old)) }
+        ensures after { row.new
+            ≡ row_or
+            (choice_row (bench_of self.now).book.n (state_of self.now) (length row.old)) row.old }
+        ensures shows { OnOk result
+            (ShowsFit (bench_of self.now).book (state_of self.now).holds row.new) }
     {
         show(self.search.fitting_row(), self.n(), row)
     }
@@ -197,9 +213,13 @@ impl<B: Book, P: Picker, S: Shelf> Session<B, P, S> {
     /// Fills a row with the holds that a standing "none fits" names, 0 elsewhere.
     /// Refused with 23 where the row is not n long, else with 24 where no "none fits" stands; the row then stays.
     pub fn named(&self, row: &mut [u8]) -> Result<(), Refusal>
-        ensures answer { result ≡ done (named_row (bench_of self.now).book.n (state_of self.now) (length row.old)) }
-        ensures after { row.new ≡ row_or (named_row (bench_of self.now).book.n (state_of self.now) (length row.old)) row.old }
-        ensures names { OnOk result (NamesClash (bench_of self.now).book (state_of self.now).holds row.new) }
+        ensures answer { result
+            ≡ done (named_row (bench_of self.now).book.n (state_of self.now) (length row.old)) }
+        ensures after { row.new
+            ≡ row_or
+            (named_row (bench_of self.now).book.n (state_of self.now) (length row.old)) row.old }
+        ensures names { OnOk result
+            (NamesClash (bench_of self.now).book (state_of self.now).holds row.new) }
     {
         show(self.search.clashing_row(), self.n(), row)
     }
@@ -208,8 +228,10 @@ impl<B: Book, P: Picker, S: Shelf> Session<B, P, S> {
 // Fills a row of n with the n codes that there are to show.
 fn show(codes: Option<&[u8]>, n: usize, row: &mut [u8]) -> Result<(), Refusal>
     requires { IfSome codes (λ cs. length cs.now ≡ n) }
-    ensures answer { result ≡ done (shown_codes n (option_map (λ cs. cs.now) codes.entry) (length row.old)) }
-    ensures after { row.new ≡ row_or (shown_codes n (option_map (λ cs. cs.now) codes.entry) (length row.old)) row.old }
+    ensures answer { result
+        ≡ done (shown_codes n (option_map (λ cs. cs.now) codes.entry) (length row.old)) }
+    ensures after { row.new
+        ≡ row_or (shown_codes n (option_map (λ cs. cs.now) codes.entry) (length row.old)) row.old }
 {
     if row.len() != n {
         return Err(Refusal::RowLength);

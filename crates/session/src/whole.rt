@@ -10,7 +10,7 @@ ghost use Rattle.search.specs.Law.{LessonsFollow};
 ghost use Rattle.session.specs.Solving.{names_twice, refuses_holds, refuses_solve, solved, solved_row, SolvedTruly};
 
 use crate::budget::check_budget;
-use crate::search_state::check_opening;
+use crate::opening::check_opening;
 use crate::session::Session;
 use book::Book;
 use parts::limits::MOST_PARTS;
@@ -41,14 +41,21 @@ pub fn solve<B: Book, P: Picker, S: Shelf>(
     row: &mut [u8],
 ) -> Solved<B, P, S>
     ensures refused { let b : Bench = record { book = B.meaning book; forget = forget } in
-        (why : Refusal) → refuses_solve b (P.meaning picker) (S.meaning shelf) holds.now budget (length row.old) ≡ Some why
+        (why : Refusal)
+        → refuses_solve b (P.meaning picker) (S.meaning shelf) holds.now budget (length row.old)
+        ≡ Some why
         → (result.reply ≡ Err why) × (row.new ≡ row.old) × (result.shelf ≡ shelf) }
     ensures exactly { let b : Bench = record { book = B.meaning book; forget = forget } in
         let m = solved b (P.meaning picker) (S.meaning shelf) holds.now budget in
-        refuses_solve b (P.meaning picker) (S.meaning shelf) holds.now budget (length row.old) ≡ None
-        → (result.reply ≡ Ok (report m)) × (row.new ≡ solved_row b.book.n m row.old) × (S.meaning result.shelf ≡ m.shelf) }
-    ensures truly { IfOk result.reply (SolvedTruly (B.meaning book) holds.now budget row.old row.new) }
-    ensures lessons { IfOk result.reply (λ _. LessonsFollow (record { book = B.meaning book; forget = forget }) (S.meaning result.shelf).rows) }
+        refuses_solve b (P.meaning picker) (S.meaning shelf) holds.now budget (length row.old)
+        ≡ None
+        → (result.reply ≡ Ok (report m)) × (row.new ≡ solved_row b.book.n m row.old)
+        × (S.meaning result.shelf ≡ m.shelf) }
+    ensures truly { IfOk result.reply
+        (SolvedTruly (B.meaning book) holds.now budget row.old row.new) }
+    ensures lessons { IfOk result.reply
+        (λ _. LessonsFollow (record { book = B.meaning book; forget = forget })
+        (S.meaning result.shelf).rows) }
     ensures back { (result.book ≡ book) × (result.picker ≡ picker) }
 {
     match check_solve(&book, &picker, &shelf, forget, holds, budget, row.len()) {
@@ -84,7 +91,10 @@ fn check_solve<B: Book, P: Picker, S: Shelf>(
     len: usize,
 ) -> Result<Holds, Refusal>
     ensures { let b : Bench = record { book = B.meaning book.now; forget = forget } in
-        result ≡ ok_unless (refuses_solve b (P.meaning picker.now) (S.meaning shelf.now) holds.now budget len) holds.now }
+        result
+        ≡ ok_unless
+        (refuses_solve b (P.meaning picker.now)
+        (S.meaning shelf.now) holds.now budget len) holds.now }
 {
     check_opening(book, picker, shelf, forget)?;
     let held = check_holds(book.n(), holds)?;
@@ -107,9 +117,11 @@ fn run_once<B: Book, P: Picker, S: Shelf>(
     requires long { length row.old ≡ (bench_of session.old).book.n }
     ensures answer { result ≡ report (run (bench_of session.old) budget (state_of session.old)) }
     ensures after { state_of session.new ≡ run (bench_of session.old) budget (state_of session.old) }
-    ensures shows { row.new ≡ solved_row (bench_of session.old).book.n (state_of session.new) row.old }
+    ensures shows { row.new
+        ≡ solved_row (bench_of session.old).book.n (state_of session.new) row.old }
     ensures kept { Kept session.old session.new }
-    ensures truly { SolvedTruly (bench_of session.old).book (state_of session.old).holds budget row.old row.new result }
+    ensures truly { SolvedTruly (bench_of session.old).book
+        (state_of session.old).holds budget row.old row.new result }
 {
     let Ok(report) = session.run(budget) else {
         unreachable();
@@ -162,7 +174,8 @@ fn are_parts(n: usize, marks: &[Mark]) -> bool
 fn hold_all(n: usize, marks: &[Mark]) -> Option<Holds>
     requires few { n ≤ MOST_PARTS }
     requires parts { IsTrue (list_all (λ m. is_part n m.part) marks.now) }
-    ensures { MatchOption result (IsTrue (names_twice marks.now)) (λ held. (held ≡ marks.now) × IsFalse (names_twice marks.now)) }
+    ensures { MatchOption result (IsTrue (names_twice marks.now))
+        (λ held. (held ≡ marks.now) × IsFalse (names_twice marks.now)) }
 {
     let mut held = Holds::empty();
     for mark in marks {

@@ -11,8 +11,8 @@ use Rattle.text.specs.Layout.{Inline}
 use Rattle.sheet.specs.Reading.{Said, is_name, sheet_of}
 use Rattle.sheet.specs.Format.{Format, placed, sheet_text}
 
--- A sheet is accepted with these names and holds exactly if it is their one text;
--- and each name comes with the place where it stands.
+-- A sheet is accepted with these names and holds exactly if it is their one text; and each name
+-- comes with the place where it stands.
 pub record AcceptsTheSheet (n : ℕ) (text : List ℕ) : Type 0 where
   pub only : (s : Said) → sheet_of n text ≡ Ok s →
       (names : List (List ℕ)) × (s.names ≡ placed 0 1 names) × Format n names s.holds text
@@ -63,7 +63,8 @@ pub record BeginsSheet (n : ℕ) (text : List ℕ) : Type 0 where
   pub names_are : IsTrue (list_all is_name names)
   pub holds_are : IsTrue (is_distinct n holds)
 
--- A fault is the first: with what it names no sheet begins, but with what stands before it one does.
+-- A fault is the first: with what it names no sheet begins, but with what stands before it one
+-- does.
 pub record FaultIsFirst (n : ℕ) (text : List ℕ) (f : Fault) : Type 0 where
   -- the sheet is cut before and after what is named
   pub before : List ℕ

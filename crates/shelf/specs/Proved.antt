@@ -1,4 +1,5 @@
--- Nothing in this module needs to be believed: it proves that the shelves are sound, which the checker wants beside the definitions.
+-- Nothing in this module needs to be believed: it proves that the shelves are sound, which the
+-- checker wants beside the definitions.
 use Rattle.std.specs.Prelude.{◌≡◌, ℕ, zero, suc, ◌+◌, Bool, true, List, [], ◌∷◌, map, length, drop, Option, nat_le, refl}
 use Rattle.std.specs.List.{list_all}
 use Rattle.std.proofs.Common.{◌∙◌, arith}
@@ -11,21 +12,29 @@ use Rattle.shelf.specs.Table.{Sized, blocks, read_by}
 use Rattle.shelf.specs.Grid.{formed_codes, read_codes}
 use Rattle.shelf.specs.Listed.{block_marks, formed_marks, code_in, codes_by, read_marks}
 
-pub length_blocks : {X : Type 0} (width places : ℕ) (entries : List X) → length (blocks width places entries) ≡ places
+pub length_blocks : {X : Type 0} (width places : ℕ) (entries : List X)
+    → length (blocks width places entries) ≡ places
 length_blocks width zero entries = refl
-length_blocks width (suc places) entries = grind (arith, length_blocks width places (drop width entries))
+length_blocks width (suc places) entries =
+    grind (arith, length_blocks width places (drop width entries))
 
 module _ {X : Type 0} (row : List X → Option (List ℕ)) (n : ℕ) where
-  pub length_rows : (places : ℕ) (entries : List X) → length (read_by row n places entries).rows ≡ places
-  length_rows places entries = length-map (blocks (n + 1) places entries) row ∙ length_blocks (n + 1) places entries
+  pub length_rows : (places : ℕ) (entries : List X)
+      → length (read_by row n places entries).rows ≡ places
+  length_rows places entries =
+      length-map (blocks (n + 1) places entries) row ∙ length_blocks (n + 1) places entries
 
   -- where a block that is well formed is empty or holds a row, so does each place
-  module _ (formed : List X → Bool) (sound : (block : List X) → formed block ≡ true → sound_place n (row block) ≡ true) where
-    rows_sound : (bs : List (List X)) → list_all formed bs ≡ true → list_all (sound_place n) (map row bs) ≡ true
+  module _ (formed : List X → Bool)
+      (sound : (block : List X) → formed block ≡ true → sound_place n (row block) ≡ true) where
+    rows_sound : (bs : List (List X)) → list_all formed bs ≡ true
+        → list_all (sound_place n) (map row bs) ≡ true
     rows_sound [] h = refl
     rows_sound (b ∷ bs) h = grind (arith, sound b, rows_sound bs)
 
-    pub table_sound : (places size : ℕ) (entries : List X) → Sized n places size → list_all formed (blocks (n + 1) places entries) ≡ true → Sound (read_by row n places entries)
+    pub table_sound : (places size : ℕ) (entries : List X) → Sized n places size
+        → list_all formed (blocks (n + 1) places entries) ≡ true
+        → Sound (read_by row n places entries)
     table_sound places size entries z h =
         let e = length_rows places entries in
         record {
@@ -37,7 +46,8 @@ module _ {X : Type 0} (row : List X → Option (List ℕ)) (n : ℕ) where
         }
 
 -- what a block of codes that is well formed holds
-pub codes_sound : (n : ℕ) (block : List ℕ) → formed_codes n block ≡ true → sound_place n (read_codes block) ≡ true
+pub codes_sound : (n : ℕ) (block : List ℕ) → formed_codes n block ≡ true
+    → sound_place n (read_codes block) ≡ true
 codes_sound n block h = grind arith
 
 -- whatever the marks are, the codes that they give are a row
@@ -54,7 +64,13 @@ length_codes part zero ms = refl
 length_codes part (suc count) ms = grind (arith, length_codes (suc part) count ms)
 
 pub list_sound : (n : ℕ) (block : List ℕ) → sound_place n (read_marks n block) ≡ true
-list_sound n block = grind (arith, nat_tests, length_codes 1 n (block_marks block), codes_low 1 n (block_marks block))
+list_sound n block =
+    grind (
+      arith,
+      nat_tests,
+      length_codes 1 n (block_marks block),
+      codes_low 1 n (block_marks block),
+    )
 
 pub zero_formed : (n : ℕ) (rest : List ℕ) → formed_marks n (0 ∷ rest) ≡ true
 zero_formed n rest = grind (arith, nat_tests)

@@ -149,7 +149,12 @@ impl<E: Entry> Shelf for TableShelf<E> {
     }
 
     #[tactic(auto, using(crate::proofs::Blocks::row_read, crate::specs::Proved::length_rows))]
-    fn mark_after(&self, place: usize, passed: usize, part: usize) -> Result<Option<Mark>, Refusal> {
+    fn mark_after(
+        &self,
+        place: usize,
+        passed: usize,
+        part: usize,
+    ) -> Result<Option<Mark>, Refusal> {
         Ok(E::mark_after(self.block(place)?, passed, part))
     }
 

@@ -93,7 +93,8 @@ impl Shelf for Walked {
 
     ghost meaning = { λ s. grid_meaning s.grid };
 
-    ghost sound = { λ s. table_sound read_codes s.grid.n (formed_codes s.grid.n) (codes_sound s.grid.n)
+    ghost sound = { λ s. table_sound read_codes s.grid.n (formed_codes s.grid.n)
+        (codes_sound s.grid.n)
         s.grid.places (vec_len s.grid.table) s.grid.table.items s.grid.sized s.grid.kept };
 
     fn n(&self) -> usize {

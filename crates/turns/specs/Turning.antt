@@ -17,7 +17,8 @@ outcome None c t = bottom c
 outcome (Some x) c t = stop x c t
 
 -- the rule that a reason speaks of, by what the book and the shelf mean
-abbrev pub rule_by : {B S : Type 0} → (B → RuleBook) → (S → Shelved) → Reasons B S → Reason → Option Rule
+abbrev pub rule_by : {B S : Type 0} → (B → RuleBook) → (S → Shelved) → Reasons B S → Reason
+    → Option Rule
 rule_by book shelf r reason = rule_at (book r.book.now).rules (shelf r.shelf.now).rows reason
 
 -- the named holds with one hold more, if its opposite is in the working rule

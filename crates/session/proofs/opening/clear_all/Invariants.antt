@@ -1,5 +1,5 @@
 use Rattle.std.proofs.Common.{◌≡◌, ◌++◌, drop, replicate, None}
-use Rattle.session.proofs.search_state.clear_all.Given as goal
+use Rattle.session.proofs.opening.clear_all.Given as goal
 
 -- the first places are empty
 abbrev pub invariant-loop-before : goal.invariant-loop-before
