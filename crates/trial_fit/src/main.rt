@@ -1,9 +1,8 @@
 //! trial_fit: searches each bench of cases.tsv, which an independent program answered, and prints where the lines differ.
 #![tactic(auto)]
 
-use anyhow::{Context, bail};
-use reading::LoadError;
-use repair::Repair;
+use anyhow::Context;
+use repair::{Workspace, fit_text};
 use std::alloc::Global;
 use std::fs;
 
@@ -24,8 +23,9 @@ fn run(rt: &HostRuntime) -> anyhow::Result<()> {
     let mut wrong = 0u32;
     for line in packed.lines() {
         let case = parse_case(rt.alloc(), line)?;
-        let printed = printed(rt.alloc(), &case)?;
-        if printed.as_bytes() != case.printed.as_slice() {
+        let workspace = Workspace::new(rt.alloc())?;
+        let page = fit_text(workspace, Some(&case.book), Some(&case.sheet));
+        if page.as_str().as_bytes() != case.printed.as_slice() {
             wrong = wrong.saturating_add(1);
             println!(rt; "disagrees\t{line}")?;
         }
@@ -43,13 +43,4 @@ fn parse_case(heap: Global, line: &str) -> anyhow::Result<Case> {
         sheet: hex::decode(heap, fields.next().context("no sheet")?)?,
         printed: hex::decode(heap, fields.next().context("nothing printed")?)?,
     })
-}
-
-// What is printed of a case.
-fn printed(heap: Global, case: &Case) -> anyhow::Result<String> {
-    match Repair::of(heap, &case.book, &case.sheet) {
-        Ok(repair) => Ok(format!(in heap; "{repair}")?),
-        Err(LoadError::Faulty(fault)) => Ok(format!(in heap; "refused\t{fault}\n")?),
-        Err(LoadError::NoMemory) => bail!("out of memory"),
-    }
 }
