@@ -243,7 +243,8 @@ impl<B: Book, P: Picker, S: Shelf> Search<B, P, S> {
     // Holds a part no more; the search starts again.
     #[tactic(auto, using(std::proofs::lemmas::Bool::Decides::nat_tests, crate::proofs::Steps::held_less), unfolding(search::specs::Calls::call, search::specs::Calls::refuses, search::specs::Calls::accepted, search::specs::Calls::restarted))]
     pub(crate) fn release(&mut self, part: usize) -> Result<(), Refusal>
-        ensures answer { result ≡ call_reply (bench_in self.old) (state_in self.old) (let_out part) }
+        ensures answer { result
+            ≡ call_reply (bench_in self.old) (state_in self.old) (let_out part) }
         ensures after { state_in self.new
             ≡ call (bench_in self.old) (let_out part) (state_in self.old) }
         ensures kept { Kept self.old self.new }

@@ -108,7 +108,8 @@ impl<B: Book, P: Picker, S: Shelf> Session<B, P, S> {
     /// Holds a part no more. The trail is emptied and the counts are 0; lessons stay.
     /// Refused with 17 where there is no such part, else with 20 where it is not held.
     pub fn release(&mut self, part: usize) -> Result<(), Refusal>
-        ensures answer { result ≡ call_reply (bench_of self.old) (state_of self.old) (let_out part) }
+        ensures answer { result
+            ≡ call_reply (bench_of self.old) (state_of self.old) (let_out part) }
         ensures after { state_of self.new
             ≡ call (bench_of self.old) (let_out part) (state_of self.old) }
         ensures kept { Kept self.old self.new }

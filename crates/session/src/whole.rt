@@ -113,10 +113,12 @@ fn run_once<B: Book, P: Picker, S: Shelf>(
     row: &mut [u8],
 ) -> Report
     requires budget { refuses_budget budget None ≡ None }
-    requires fresh { ((state_of session.old).steps ≡ 0) × ((state_of session.old).verdict ≡ working) }
+    requires fresh { ((state_of session.old).steps ≡ 0)
+        × ((state_of session.old).verdict ≡ working) }
     requires long { length row.old ≡ (bench_of session.old).book.n }
     ensures answer { result ≡ report (run (bench_of session.old) budget (state_of session.old)) }
-    ensures after { state_of session.new ≡ run (bench_of session.old) budget (state_of session.old) }
+    ensures after { state_of session.new
+        ≡ run (bench_of session.old) budget (state_of session.old) }
     ensures shows { row.new
         ≡ solved_row (bench_of session.old).book.n (state_of session.new) row.old }
     ensures kept { Kept session.old session.new }
