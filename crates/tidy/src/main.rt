@@ -40,7 +40,7 @@ fn print_book(rt: &HostRuntime, book: &TextBook) -> anyhow::Result<()> {
 
 // The bytes of a file, up to one more than there may be; nothing where it cannot be opened or read.
 fn read_file(rt: &HostRuntime, name: &str, most: usize) -> io::Result<Option<Vec<u8>>> {
-    match read_front(rt, name, most as u64 + 1) {
+    match read_front(rt, name, (most as u64).saturating_add(1)) {
         Ok(bytes) => Ok(Some(bytes)),
         Err(error) if error.kind() == ErrorKind::OutOfMemory => Err(error),
         Err(_) => Ok(None),
