@@ -25,8 +25,13 @@ length_pairs a (suc w) =
 pub length_bays : (a : ℕ) (ws : List ℕ) → length (bays_rules a ws) ≡ rule_count ws
 length_bays a [] = refl
 length_bays a (w ∷ ws) =
-    omega (arith, length-append (pairs a w) (bays_rules (a + w) ws), length_pairs a w,
-    length_bays (a + w) ws, sum_by-cons bay_count w ws)
+    omega (
+      arith,
+      length-append (pairs a w) (bays_rules (a + w) ws),
+      length_pairs a w,
+      length_bays (a + w) ws,
+      sum_by-cons bay_count w ws,
+    )
 
 pub pairs_few : (w : ℕ) → w ≤ MOST_WIDTH → pair_count w ≤ MOST_WIDTH * w
 pairs_few zero h = omega arith
@@ -45,15 +50,24 @@ widths_fit (w ∷ ws) h = grind (arith, nat_tests, widths_fit ws)
 
 pub bay_parts : (ws : List ℕ) → has_bay_book ws ≡ true → BayParts ws
 bay_parts ws h =
-    record { some = grind (arith, nat_tests); widths = widths_fit ws (grind arith);
-          few = grind (arith, nat_tests) }
+    record {
+      some = grind (arith, nat_tests);
+      widths = widths_fit ws (grind arith);
+      few = grind (arith, nat_tests);
+    }
 
 pub rules_few : (ws : List ℕ) → AllByRecursion (λ w. (1 ≤ w) × (w ≤ MOST_WIDTH)) ws
     → rule_count ws ≤ (MOST_WIDTH + 1) * sum ws
 rules_few [] a = omega arith
 rules_few (w ∷ ws) a =
-    omega (arith, pairs_few w a.0.1, rules_few ws a.1, a.0.0, sum_by-cons bay_count w ws,
-    sum_more w ws)
+    omega (
+      arith,
+      pairs_few w a.0.1,
+      rules_few ws a.1,
+      a.0.0,
+      sum_by-cons bay_count w ws,
+      sum_more w ws,
+    )
 
 parts_some : (ws : List ℕ) → 1 ≤ length ws → AllByRecursion (λ w. (1 ≤ w) × (w ≤ MOST_WIDTH)) ws
     → 1 ≤ sum ws
@@ -82,8 +96,8 @@ pairs_sound : (n a w : ℕ) → 1 ≤ a → a + w ≤ suc n → sound_rules n (p
 pairs_sound n a zero low high = refl
 pairs_sound n a (suc w) low high =
     sound_rules-append n (map (not_both a) (range_with_len (a + 1) w)) (pairs (a + 1) w)
-        (row_sound n a (a + 1) w low (omega arith) (omega arith))
-        (pairs_sound n (a + 1) w (omega arith) (omega arith))
+    (row_sound n a (a + 1) w low (omega arith) (omega arith))
+    (pairs_sound n (a + 1) w (omega arith) (omega arith))
 
 bays_sound : (n a : ℕ) (ws : List ℕ) → 1 ≤ a → a + sum ws ≤ suc n
     → sound_rules n (bays_rules a ws) ≡ true

@@ -65,8 +65,13 @@ after b cs = calls b cs (opened (lowest_picks b.book.n) (empty_shelf b.book.n 4)
 -- what is seen of a session in some state
 abbrev pub seen : Bench → Machine → After
 seen b m =
-    record { verdict = m.verdict; choice = row b.book.n m.trail; steps = m.steps; turns = m.turns;
-    shelf = m.shelf.rows }
+    record {
+      verdict = m.verdict;
+      choice = row b.book.n m.trail;
+      steps = m.steps;
+      turns = m.turns;
+      shelf = m.shelf.rows;
+    }
 
 -- what is seen after calls, under a forgetting rule
 abbrev pub makes : RuleBook → Forgetting → List Call → Seen

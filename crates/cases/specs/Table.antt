@@ -86,7 +86,7 @@ texts =
     ∷ text_reads (codes "p cnf 2 1\n1 3 0") ↝ text (Err (fault_at PartAboveN 12 1))
     ∷ text_reads (codes "p cnf 2 1\n1 -0 0") ↝ text (Err (fault_at MalformedRule 12 1))
     ∷ text_reads (codes "c wrist\np cnf 2 2\n -2 1 0\n\n0")
-        ↝ text (Ok (book 2 ((o 2 ∷ i 1 ∷ []) ∷ [] ∷ [])))
+    ↝ text (Ok (book 2 ((o 2 ∷ i 1 ∷ []) ∷ [] ∷ [])))
     ∷ text_reads chain_text ↝ text (Ok chain)
     ∷ bays_of (2 ∷ 1 ∷ []) ↝ bays (book 3 ((i 1 ∷ i 2 ∷ []) ∷ (o 1 ∷ o 2 ∷ []) ∷ (i 3 ∷ []) ∷ []))
     ∷ []
@@ -96,12 +96,12 @@ abbrev pub sessions : List Case
 sessions =
     makes (book 1 ([] ∷ [])) KeepAll (run_for 9 ∷ []) ↝ gave (none_fits (0 ∷ [])) (0 ∷ []) 1 1 clear
     ∷ makes (book 1 ((i 1 ∷ []) ∷ [])) KeepAll (hold 1 2 ∷ run_for 9 ∷ [])
-        ↝ gave (none_fits (2 ∷ [])) (0 ∷ []) 2 1 clear
+    ↝ gave (none_fits (2 ∷ [])) (0 ∷ []) 2 1 clear
     ∷ makes chain KeepAll (run_for 1000000 ∷ []) ↝ gave fits (2 ∷ 1 ∷ 1 ∷ []) 4 0 clear
     ∷ makes chain KeepAll (hold 3 2 ∷ hold 3 1 ∷ run_for 0 ∷ run_for 2 ∷ run_for 7 ∷ [])
-        ↝ gave (none_fits (0 ∷ 0 ∷ 2 ∷ [])) (0 ∷ 0 ∷ 0 ∷ []) 4 1 clear
+    ↝ gave (none_fits (0 ∷ 0 ∷ 2 ∷ [])) (0 ∷ 0 ∷ 0 ∷ []) 4 1 clear
     ∷ makes no_choice KeepAll (run_for 1000000 ∷ [])
-        ↝ gave (none_fits (0 ∷ 0 ∷ [])) (0 ∷ 0 ∷ []) 5 2 (two (Some (1 ∷ 0 ∷ [])) None)
+    ↝ gave (none_fits (0 ∷ 0 ∷ [])) (0 ∷ 0 ∷ []) 5 2 (two (Some (1 ∷ 0 ∷ [])) None)
     ∷ makes four KeepAll (run_for 5 ∷ []) ↝ gave working (2 ∷ 2 ∷ 1 ∷ 0 ∷ []) 5 1 (two l13 None)
     ∷ makes four KeepAll (run_for 7 ∷ []) ↝ after_two l13
     ∷ makes four KeepAll (run_for 1000000 ∷ []) ↝ gave fits (1 ∷ 2 ∷ 2 ∷ 2 ∷ []) 11 2 (two l13 l1)
@@ -123,13 +123,20 @@ forgetting =
 abbrev pub sheets : List Case
 sheets =
     sheet_reads 3 board_out
-        ↝ sheet
-        (Ok (record { names = name 7 (codes "LOOM-A") ∷ name 21 (codes "LOOM-B")
-        ∷ name 35 (codes "BOARD-C") ∷ []; holds = o 3 ∷ [] }))
+    ↝ sheet
+    (Ok (record {
+      names = name 7 (codes "LOOM-A") ∷ name 21 (codes "LOOM-B")
+          ∷ name 35 (codes "BOARD-C") ∷ [];
+      holds = o 3 ∷ [];
+    }))
     ∷ repairs chain_text board_out
     ↝ repair
-        (Ok (record { report = record { answer = NoneFits; steps = 4; turns = 1 }; row = 0 ∷ 0 ∷ 2
-        ∷ []; lines = codes "held\t3\tout\tBOARD-C\n" }))
+    (Ok (record {
+      report = record { answer = NoneFits; steps = 4; turns = 1 };
+      row = 0 ∷ 0 ∷ 2
+          ∷ [];
+      lines = codes "held\t3\tout\tBOARD-C\n";
+    }))
     ∷ []
 
 -- all of them

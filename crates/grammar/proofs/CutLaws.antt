@@ -131,13 +131,13 @@ in_cut {N} {S} {R} {P} p l tail zs f inline plain ends r s x may =
           let o = one_line rest in
           let t = x.before ++ (x.bytes ++ o.line) in
           rw (o.is, four o.line o.tail)
-            (r t o.tail (each_append Inline x.before _ front (each_append Inline x.bytes _ word o.inline)) (λ q. plain (ap (λ t. get_or t 0 0) x.is_line ∙ (first_same x.before x.bytes x.after o.line x.field.0 ∙ q))) o.ends
-              (fields_some p x.before x.bytes o.line x.field) (x.stops o.line (o.word k)));
+          (r t o.tail (each_append Inline x.before _ front (each_append Inline x.bytes _ word o.inline)) (λ q. plain (ap (λ t. get_or t 0 0) x.is_line ∙ (first_same x.before x.bytes x.after o.line x.field.0 ∙ q))) o.ends
+          (fields_some p x.before x.bytes o.line x.field) (x.stops o.line (o.word k)));
       rest = x.rest ++ zs;
       replaces = tt;
       passed =
           rw (sym (append_assoc x.before x.rest zs))
-            (s (x.before ++ x.rest) (each_append Inline x.before x.rest front x.inline) (first_rest x.before x.rest (x.bytes ++ x.after) x.plain (λ q. plain (ap (λ t. get_or t 0 0) x.is_line ∙ q))) x.passes);
+          (s (x.before ++ x.rest) (each_append Inline x.before x.rest front x.inline) (first_rest x.before x.rest (x.bytes ++ x.after) x.plain (λ q. plain (ap (λ t. get_or t 0 0) x.is_line ∙ q))) x.passes);
     }
 
 -- a line feed and a 0 for each of so many rules

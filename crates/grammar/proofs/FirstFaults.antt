@@ -82,7 +82,7 @@ module _ (marks ends : ℕ) where
       let t : List ℕ = b ∷ bs in
       let head : head_of p (counted (piece p t)) ≡ Ok (record { n = n; m = 0 }) = rw (plain_counted p t c) h in
       let one : from_head MOST_TEXT_MARKS MOST_TEXT_RULES e (lines p (t ++ [])) ≡ from_head MOST_TEXT_MARKS MOST_TEXT_RULES e (piece p t ∷ []) =
-          ap (λ t. from_head MOST_TEXT_MARKS MOST_TEXT_RULES e (lines p t)) (append-nil t) ∙ ap (from_head MOST_TEXT_MARKS MOST_TEXT_RULES e) (lines_last p t i (λ k. cc)) in
+      ap (λ t. from_head MOST_TEXT_MARKS MOST_TEXT_RULES e (lines p t)) (append-nil t) ∙ ap (from_head MOST_TEXT_MARKS MOST_TEXT_RULES e) (lines_last p t i (λ k. cc)) in
       rw (one, head_on MOST_TEXT_MARKS MOST_TEXT_RULES e (piece p t) [] _ head) refl
 
   -- a fault of a head names its line, or one of its numbers
@@ -114,12 +114,12 @@ module _ (marks ends : ℕ) where
         | inr y ↦
             let (a, b, c₃, d, n, is, begun, fault) = y in
             in_cut {N = NoSize p [] p} {S = SomeSize p [] p} p l tail [] f i c k
-              (λ t more i g r s no e.
-              let first = first_line p t more i r (some_byte p t s) in
-              rw first.1 (head_err marks ends e (piece p t) first.0 (rw (plain_counted p t g) s) (rw (plain_counted p t g) no)))
-              (λ t i g s. head_passes p t s.0 i g s.1)
-              (size_fault p l f a b c₃ d n (has ∙ is) (rw (has ∙ is) at (fields_of p l i)) begun fault)
-              (names_field (c₃.at) (d.at) f (kinds d.bytes fault))
+            (λ t more i g r s no e.
+            let first = first_line p t more i r (some_byte p t s) in
+            rw first.1 (head_err marks ends e (piece p t) first.0 (rw (plain_counted p t g) s) (rw (plain_counted p t g) no)))
+            (λ t i g s. head_passes p t s.0 i g s.1)
+            (size_fault p l f a b c₃ d n (has ∙ is) (rw (has ∙ is) at (fields_of p l i)) begun fault)
+            (names_field (c₃.at) (d.at) f (kinds d.bytes fault))
       ]
     where
       size_err : (y : Result Size Fault) (f : Fault) → y ≡ Err f → IsErr y
@@ -179,12 +179,12 @@ module _ (marks ends : ℕ) where
         ends_there = refl;
         refused = λ rest k d.
             rw (k, append-nil l, lines_last p l i some, head_on marks ends d (piece p l) [] size head)
-              (book_err size.n _ (is_err (rules_of (room_of marks ends size.n) d size.m 0 0 []) (fault_at RuleCount d 1) (grind (arith, nat_tests))));
+            (book_err size.n _ (is_err (rules_of (room_of marks ends size.n) d size.m 0 0 []) (fault_at RuleCount d 1) (grind (arith, nat_tests))));
         rest = 10 ∷ (codes "0" ++ zeros (size.m - 1));
         replaces = inr refl;
         passed = λ d.
             rw (lines_feed p l (codes "0" ++ zeros (size.m - 1)) i, head_on MOST_TEXT_MARKS MOST_TEXT_RULES d (piece p l) (lines from (codes "0" ++ zeros (size.m - 1))) size head)
-              (book_ok size.n _ (zeros_pass size.n marks ends size.m heads.few heads.rules_few (size.m - 1) 0 0 from (omega arith) d));
+            (book_ok size.n _ (zeros_pass size.n marks ends size.m heads.few heads.rules_few (size.m - 1) 0 0 from (omega arith) d));
       }
 
   text_cut : (ls : List (List ℕ)) (p : ℕ) (text : List ℕ) (e : ℕ) (f : Fault) → Lines ls text → e ≡ p + length text → from_head marks ends e (lines p text) ≡ Err f → Cut p text f (NoBook marks ends p) (SomeBook marks ends p)
@@ -210,18 +210,18 @@ module _ (marks ends : ℕ) where
           let head : head_of p (counted (piece p l)) ≡ Ok size = rw c is in
           let rules = rules_err size.n _ f r in
           cut_after p l g f
-            (λ t k d. rw (lines_feed p l t i.0, head_on marks ends d (piece p l) (lines from t) size head) (book_err size.n _ (k d)))
-            (λ t k d. rw (lines_feed p l t i.0, head_on MOST_TEXT_MARKS MOST_TEXT_RULES d (piece p l) (lines from t) size head) (book_ok size.n _ (k d)))
-            (rest_fault size.n marks ends size.m heads.few heads.rules_few ls 0 0 from g e f h end (omega arith) (omega arith) rules)
+          (λ t k d. rw (lines_feed p l t i.0, head_on marks ends d (piece p l) (lines from t) size head) (book_err size.n _ (k d)))
+          (λ t k d. rw (lines_feed p l t i.0, head_on MOST_TEXT_MARKS MOST_TEXT_RULES d (piece p l) (lines from t) size head) (book_ok size.n _ (k d)))
+          (rest_fault size.n marks ends size.m heads.few heads.rules_few ls 0 0 from g e f h end (omega arith) (omega arith) rules)
 
       fed : (g : List ℕ) → Lines ls g → e ≡ p + length l + 1 + length g → (fs : List Piece) → counted (piece p l) ≡ fs → from_fields marks ends e (piece p l) (lines (p + length l + 1) g) fs ≡ Err f
           → (from_head marks ends e (lines (p + length l + 1) g) ≡ Err f → Cut (p + length l + 1) g f (NoBook marks ends (p + length l + 1)) (SomeBook marks ends (p + length l + 1))) → Cut p (l ++ 10 ∷ g) f (NoBook marks ends p) (SomeBook marks ends p)
       fed g h end [] c r rec =
           let from = p + length l + 1 in
           cut_after p l g f
-            (λ t k d. rw (lines_feed p l t i.0, head_skip marks ends d (piece p l) (lines from t) c) (k d))
-            (λ t k d. rw (lines_feed p l t i.0, head_skip MOST_TEXT_MARKS MOST_TEXT_RULES d (piece p l) (lines from t) c) (k d))
-            (rec r)
+          (λ t k d. rw (lines_feed p l t i.0, head_skip marks ends d (piece p l) (lines from t) c) (k d))
+          (λ t k d. rw (lines_feed p l t i.0, head_skip MOST_TEXT_MARKS MOST_TEXT_RULES d (piece p l) (lines from t) c) (k d))
+          (rec r)
       fed g h end (x ∷ fs) c r rec = headed g h end x fs c (head_of p (x ∷ fs)) refl r
 
       -- after the last line, which is not

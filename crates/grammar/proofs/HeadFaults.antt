@@ -122,38 +122,38 @@ size_fault p l f a b c d n has h begun fault =
     let z : Piece = piece (p₂ + length b₃) c.bytes in
     let begins : Begun x y z n = record { is_p = begun.is_p; is_cnf = begun.is_cnf; is_n = begun.is_n } in
     rw is₁ (after_field p [] p b₁ a.bytes l₁ f.byte blank₁ word₁ ends₁
-      (rw is₂ (after_field p (x ∷ []) p₁ b₂ b.bytes l₂ f.byte blank₂ word₂ ends₂
-        (elim fault [
-          | inl k ↦
-              record {
-                before = b₃;
-                bytes = c.bytes;
-                after = l₃;
-                is_line = is₃;
-                byte_is = ap (λ g. g.byte) k.0 ∙ third.0;
-                starts = starts_blank b₃ blank₃;
-                field = word₃;
-                ends = ends₃;
-                stops = λ rest e. rw (fields_word p₂ b₃ c.bytes rest blank₃ word₃ e) (n_stays p x y z n (fields (p₂ + length b₃ + length c.bytes) rest) begins k.1);
-                rest = codes "1 0";
-                inline = ((λ q. omega arith), ((λ q. omega arith), ((λ q. omega arith), tt)));
-                plain = λ q. omega arith;
-                passes = (1, rw (fields_blank p₂ b₃ (codes "1 0") blank₃) (n_passes p x y (p₂ + length b₃) (p₂ + length b₃ + 1 + 1) begun.is_p begun.is_cnf));
-              }
-          | inr k ↦
-              rw is₃ (after_field p (x ∷ y ∷ []) p₂ b₃ c.bytes l₃ f.byte blank₃ word₃ ends₃ (record {
-                before = b₄;
-                bytes = d.bytes;
-                after = l₄;
-                is_line = is₄;
-                byte_is = ap (λ g. g.byte) k.1 ∙ fourth.0;
-                starts = starts_blank b₄ blank₄;
-                field = word₄;
-                ends = ends₄;
-                stops = λ rest e. rw (fields_word p₃ b₄ d.bytes rest blank₄ word₄ e) (m_stays p x y z (piece (p₃ + length b₄) d.bytes) n k.0 (fields (p₃ + length b₄ + length d.bytes) rest) begins k.4 k.5);
-                rest = codes "0";
-                inline = ((λ q. omega arith), tt);
-                plain = λ q. omega arith;
-                passes = (n, rw (fields_blank p₃ b₄ (codes "0") blank₄) (m_passes p x y z n (p₃ + length b₄) begins k.2 k.3));
-              }))
-        ]))))
+    (rw is₂ (after_field p (x ∷ []) p₁ b₂ b.bytes l₂ f.byte blank₂ word₂ ends₂
+    (elim fault [
+      | inl k ↦
+          record {
+            before = b₃;
+            bytes = c.bytes;
+            after = l₃;
+            is_line = is₃;
+            byte_is = ap (λ g. g.byte) k.0 ∙ third.0;
+            starts = starts_blank b₃ blank₃;
+            field = word₃;
+            ends = ends₃;
+            stops = λ rest e. rw (fields_word p₂ b₃ c.bytes rest blank₃ word₃ e) (n_stays p x y z n (fields (p₂ + length b₃ + length c.bytes) rest) begins k.1);
+            rest = codes "1 0";
+            inline = ((λ q. omega arith), ((λ q. omega arith), ((λ q. omega arith), tt)));
+            plain = λ q. omega arith;
+            passes = (1, rw (fields_blank p₂ b₃ (codes "1 0") blank₃) (n_passes p x y (p₂ + length b₃) (p₂ + length b₃ + 1 + 1) begun.is_p begun.is_cnf));
+          }
+      | inr k ↦
+          rw is₃ (after_field p (x ∷ y ∷ []) p₂ b₃ c.bytes l₃ f.byte blank₃ word₃ ends₃ (record {
+            before = b₄;
+            bytes = d.bytes;
+            after = l₄;
+            is_line = is₄;
+            byte_is = ap (λ g. g.byte) k.1 ∙ fourth.0;
+            starts = starts_blank b₄ blank₄;
+            field = word₄;
+            ends = ends₄;
+            stops = λ rest e. rw (fields_word p₃ b₄ d.bytes rest blank₄ word₄ e) (m_stays p x y z (piece (p₃ + length b₄) d.bytes) n k.0 (fields (p₃ + length b₄ + length d.bytes) rest) begins k.4 k.5);
+            rest = codes "0";
+            inline = ((λ q. omega arith), tt);
+            plain = λ q. omega arith;
+            passes = (n, rw (fields_blank p₃ b₄ (codes "0") blank₄) (m_passes p x y z n (p₃ + length b₄) begins k.2 k.3));
+          }))
+    ]))))

@@ -50,7 +50,7 @@ module _ (n m_entries e_entries m : ℕ) (few : n ≤ MOST_PARTS) (low : m ≤ M
       let at = p + length t + 1 in
       let one = zero_ends n m_entries e_entries (done + 1 + 1) (used + length r) (omega arith) [] at [] tt refl (at + 1) in
       rw (lines_feed p t (48 ∷ zeros k) i, rules_rule (full_room n) e m done used (piece p t) (lines at (48 ∷ zeros k)) r (omega arith) q)
-        (with_ok r _ (line_passes k (done + 1) (used + length r) at (codes "0") one.0 ((λ k. omega arith), tt) (λ e. cc) (omega arith) one.1 e))
+      (with_ok r _ (line_passes k (done + 1) (used + length r) at (codes "0") one.0 ((λ k. omega arith), tt) (λ e. cc) (omega arith) one.1 e))
 
   -- so do lines of a 0 each
   pub zeros_pass : (k done used p : ℕ) → done + 1 + k ≡ m → SomeRules done used p (codes "0" ++ zeros k)
@@ -110,26 +110,26 @@ module _ (n m_entries e_entries m : ℕ) (few : n ≤ MOST_PARTS) (low : m ≤ M
         let h : Fields (x.bytes ∷ bytes_of fs) l = rw has at (fields_of p l inline) in
         let here : x.at ≡ p + length h.0 = field_place p l x fs h.0 h.1 has h.2 h.3 h.4 h.5 in
         in_cut {N = λ t. Unit {0}} {S = λ t. fields p t ≡ []} p l tail [] f inline c ends
-          (λ t more i k g some u d.
-          let first = first_line p t more i g (some_byte p t some) in
-          rw first.1 (line_err done used d (piece p t) first.0 (rw (plain_counted p t k) some) (λ lt. absurd (omega arith))))
-          (λ t i k none. blank_passes 0 done used p t i (plain_counted p t k ∙ none) (omega arith))
-          (record {
-            before = h.0;
-            bytes = x.bytes;
-            after = h.1;
-            is_line = h.2;
-            byte_is = ap (λ y. y.byte) is ∙ here;
-            starts = starts_blank h.0 h.3;
-            field = h.4;
-            ends = h.5;
-            stops = λ rest k. tt;
-            rest = [];
-            inline = tt;
-            plain = λ k. omega arith;
-            passes = fields_none p (h.0 ++ []) (each_append Blank h.0 [] h.3 tt);
-          })
-          (rw is refl)
+        (λ t more i k g some u d.
+        let first = first_line p t more i g (some_byte p t some) in
+        rw first.1 (line_err done used d (piece p t) first.0 (rw (plain_counted p t k) some) (λ lt. absurd (omega arith))))
+        (λ t i k none. blank_passes 0 done used p t i (plain_counted p t k ∙ none) (omega arith))
+        (record {
+          before = h.0;
+          bytes = x.bytes;
+          after = h.1;
+          is_line = h.2;
+          byte_is = ap (λ y. y.byte) is ∙ here;
+          starts = starts_blank h.0 h.3;
+          field = h.4;
+          ends = h.5;
+          stops = λ rest k. tt;
+          rest = [];
+          inline = tt;
+          plain = λ k. omega arith;
+          passes = fields_none p (h.0 ++ []) (each_append Blank h.0 [] h.3 tt);
+        })
+        (rw is refl)
 
     -- a fault in the rule's line
     in_rule : (x : Piece) (fs : List Piece) → counted (piece p l) ≡ x ∷ fs → done < m → rule_of room (rule_start done used (piece p l)) [] (counted (piece p l)) ≡ Err f → Here
@@ -142,13 +142,13 @@ module _ (n m_entries e_entries m : ℕ) (few : n ≤ MOST_PARTS) (low : m ≤ M
         elim (rule_fault n m_entries e_entries (done + 1) used lo (bytes_of (fields p l)) [] p l (p + length l) f (fields_of p l inline) refl (rw plain at h)) [
           | inl x ↦
               in_cut {N = NoRule n m_entries e_entries (done + 1) used lo [] p} {S = SomeRule n m_entries e_entries (done + 1) used lo [] p} p l tail (zeros k) f inline c ends
-                (λ t more i k g some no d.
-                let first = first_line p t more i g (some_byte p t some) in
-                rw first.1 (line_err done used d (piece p t) first.0 (rw (plain_counted p t k) some) (λ lt. rw (plain_counted p t k) (no (p + length t)))))
-                (λ t i g some.
-                let one = some (p + length t) in
-                line_passes k done used p t one.0 i (rule_byte t one) all (rw (plain_counted p t g) (one.1)))
-                x.0 x.1
+              (λ t more i k g some no d.
+              let first = first_line p t more i g (some_byte p t some) in
+              rw first.1 (line_err done used d (piece p t) first.0 (rw (plain_counted p t k) some) (λ lt. rw (plain_counted p t k) (no (p + length t)))))
+              (λ t i g some.
+              let one = some (p + length t) in
+              line_passes k done used p t one.0 i (rule_byte t one) all (rw (plain_counted p t g) (one.1)))
+              x.0 x.1
           | inr y ↦
               let is : f ≡ fault_at MalformedRule (p + length l) (done + 1) = y.is in
               let some : l ≢ [] = some_byte p l (rw (← plain, q) (x, fs, refl)) in
@@ -173,7 +173,7 @@ module _ (n m_entries e_entries m : ℕ) (few : n ≤ MOST_PARTS) (low : m ≤ M
                 replaces = ends_word y.rest (zeros k) y.ends (zeros_end k);
                 passed =
                     rw (sym (append_assoc l y.rest (zeros k)))
-                      (line_passes k done used p on one.0 (each_append Inline l y.rest inline y.inline) (rule_byte on one) all (rw first (one.1)));
+                    (line_passes k done used p on one.0 (each_append Inline l y.rest inline y.inline) (rule_byte on one) all (rw first (one.1)));
               }
         ]
       where
@@ -235,7 +235,7 @@ module _ (n m_entries e_entries m : ℕ) (few : n ≤ MOST_PARTS) (low : m ≤ M
         ends_there = refl;
         refused = λ rest k d.
             rw (k, append-nil l, lines_last p l i some, rules_rule room d m done used (piece p l) [] r lt rule)
-              (with_err r _ (is_err (rules_of room d m (done + 1) (used + length r) []) (fault_at RuleCount d (done + 1 + 1)) (grind (arith, nat_tests))));
+            (with_err r _ (is_err (rules_of room d m (done + 1) (used + length r) []) (fault_at RuleCount d (done + 1 + 1)) (grind (arith, nat_tests))));
         rest = zeros (m - (done + 1));
         replaces = zeros_word (m - (done + 1));
         passed = line_passes (m - (done + 1)) done used p l r i some (omega arith) (rule_full done used p l r fits lt rule).0;
@@ -253,15 +253,15 @@ module _ (n m_entries e_entries m : ℕ) (few : n ≤ MOST_PARTS) (low : m ≤ M
           | inl here ↦ here
           | inr (inl k) ↦
               cut_after p l g f
-                (λ t r d. rw (lines_feed p l t i.0, rules_skip room d m done used (piece p l) (lines from t) k.0) (r d))
-                (λ t r d. rw (lines_feed p l t i.0, rules_skip (full_room n) d m done used (piece p l) (lines from t) k.0) (r d))
-                (rest_fault ls done used from g e f t.2 end fits le k.1)
+              (λ t r d. rw (lines_feed p l t i.0, rules_skip room d m done used (piece p l) (lines from t) k.0) (r d))
+              (λ t r d. rw (lines_feed p l t i.0, rules_skip (full_room n) d m done used (piece p l) (lines from t) k.0) (r d))
+              (rest_fault ls done used from g e f t.2 end fits le k.1)
           | inr (inr k) ↦
               let full = rule_full done used p l k.0 fits k.1 k.2 in
               cut_after p l g f
-                (λ t r d. rw (lines_feed p l t i.0, rules_rule room d m done used (piece p l) (lines from t) k.0 k.1 k.2) (with_err k.0 _ (r d)))
-                (λ t r d. rw (lines_feed p l t i.0, rules_rule (full_room n) d m done used (piece p l) (lines from t) k.0 k.1 full.0) (with_ok k.0 _ (r d)))
-                (rest_fault ls (done + 1) (used + length k.0) from g e f t.2 end full.1 (omega arith) k.3)
+              (λ t r d. rw (lines_feed p l t i.0, rules_rule room d m done used (piece p l) (lines from t) k.0 k.1 k.2) (with_err k.0 _ (r d)))
+              (λ t r d. rw (lines_feed p l t i.0, rules_rule (full_room n) d m done used (piece p l) (lines from t) k.0 k.1 full.0) (with_ok k.0 _ (r d)))
+              (rest_fault ls (done + 1) (used + length k.0) from g e f t.2 end full.1 (omega arith) k.3)
         ])
     | inr t ↦
         let end : e ≡ p + length l = omega (arith, ap length t.0) in

@@ -99,21 +99,24 @@ module _ (n m_entries e_entries rule used : ℕ) (low : rule ≤ MOST_TEXT_RULES
     refused : (e : ℕ) → names seen 0 ≡ false → number_or_fault room (start e) seen (at + length b) (signed w) ≡ Err f → RuleFault seen at (b ++ (w ++ line)) e f
     refused e none q =
         let (byte, may) = number_fault room (start e) seen (at + length b) (signed w) f q in
-        inl (record {
-          before = b;
-          bytes = w;
-          after = line;
-          is_line = refl;
-          byte_is = byte;
-          starts = starts_blank b blank;
-          field = field;
-          ends = ends;
-          stops = λ rest k d. rw (first rest k, field_refused room (start d) seen (piece (at + length b) w) (fields next_at rest) f q) refl;
-          rest = codes "0";
-          inline = (λ k. omega arith, tt);
-          plain = λ k. omega arith;
-          passes = zero_ends seen at b blank none;
-        }, may)
+        inl (
+          record {
+            before = b;
+            bytes = w;
+            after = line;
+            is_line = refl;
+            byte_is = byte;
+            starts = starts_blank b blank;
+            field = field;
+            ends = ends;
+            stops = λ rest k d. rw (first rest k, field_refused room (start d) seen (piece (at + length b) w) (fields next_at rest) f q) refl;
+            rest = codes "0";
+            inline = (λ k. omega arith, tt);
+            plain = λ k. omega arith;
+            passes = zero_ends seen at b blank none;
+          },
+          may,
+        )
 
     module _ (z : ℤ) (worth : signed w ≡ Some z) (e : ℕ) (taken : Taken room (start e) seen z) where
       step : (t : List ℕ) → EndsField t → (d : ℕ) → rule_of room (start d) seen (fields at (b ++ (w ++ t))) ≡ next room (start d) seen (fields next_at t) z
@@ -139,32 +142,38 @@ module _ (n m_entries e_entries rule used : ℕ) (low : rule ≤ MOST_TEXT_RULES
             let is : (t : List ℕ) → EndsField t → fields next_at (b₂ ++ (w₂ ++ t)) ≡ record { at = next_at + length b₂; bytes = w₂ } ∷ fields (next_at + length b₂ + length w₂) t = λ t k. fields_word next_at b₂ w₂ t h.3 h.4 k in
             let none : fields next_at (b₂ ++ []) ≡ [] = fields_none next_at (b₂ ++ []) (each_append Blank b₂ [] h.3 tt) in
             let fault : f ≡ fault_at MalformedRule (next_at + length b₂) rule = grind (arith, is h.1 h.5, h.2) in
-            inl (after_word {R' = NoneAfter} {P' = EndsHere} at b w line f.byte ends
-              (λ t k x d. rw (step t k d, zero) (x d))
-              (λ t k x d. (seen, step_full t k d ∙ rw zero (x d)))
-              (record {
-                before = b₂;
-                bytes = w₂;
-                after = h.1;
-                is_line = h.2;
-                byte_is = ap (λ x. x.byte) fault;
-                starts = starts_blank b₂ h.3;
-                field = h.4;
-                ends = h.5;
-                stops = λ rest k d. rw (is rest k) refl;
-                rest = [];
-                inline = tt;
-                plain = λ k. omega arith;
-                passes = λ d. rw none refl;
-              }), rw fault refl)
+            inl (
+              after_word {R' = NoneAfter} {P' = EndsHere} at b w line f.byte ends
+                  (λ t k x d. rw (step t k d, zero) (x d))
+                  (λ t k x d. (seen, step_full t k d ∙ rw zero (x d)))
+                  (record {
+                    before = b₂;
+                    bytes = w₂;
+                    after = h.1;
+                    is_line = h.2;
+                    byte_is = ap (λ x. x.byte) fault;
+                    starts = starts_blank b₂ h.3;
+                    field = h.4;
+                    ends = h.5;
+                    stops = λ rest k d. rw (is rest k) refl;
+                    rest = [];
+                    inline = tt;
+                    plain = λ k. omega arith;
+                    passes = λ d. rw none refl;
+                  }),
+              rw fault refl,
+            )
 
       -- a fault in what follows a mark
       after_mark : (nat_abs z ≡ 0 → ⊥) → RuleFault (seen ++ mark_from z ∷ []) next_at line e f → RuleFault seen at (b ++ (w ++ line)) e f
       after_mark more (inl x) =
-          inl (after_word at b w line f.byte ends
-            (λ t k y d. rw (step t k d, ne_eqb (nat_abs z) 0 more) (y d))
-            (λ t k y d. ((y d).0, step_full t k d ∙ rw (ne_eqb (nat_abs z) 0 more) ((y d).1)))
-            x.0, x.1)
+          inl (
+            after_word at b w line f.byte ends
+                (λ t k y d. rw (step t k d, ne_eqb (nat_abs z) 0 more) (y d))
+                (λ t k y d. ((y d).0, step_full t k d ∙ rw (ne_eqb (nat_abs z) 0 more) ((y d).1)))
+                x.0,
+            x.1,
+          )
       after_mark more (inr x) =
           inr (record {
             is = x.is;

@@ -48,8 +48,7 @@ fn open_marks<S: Shelf>(shelf: &S, place: usize, marks: usize, trail: &Trail) ->
 // Whether the lesson in a place is cleared: it is forgotten, and no reason on the trail.
 #[tactic(auto, unfolding(search::specs::Machine::drops))]
 fn drops<S: Shelf>(shelf: &S, forget: Forgetting, trail: &Trail, place: usize) -> bool
-    ensures {
-        result ≡ drops forget (settled_row trail.now.n trail.now.entries) trail.now.entries place
+    ensures { result ≡ drops forget (settled_row trail.now.n trail.now.entries) trail.now.entries place
         (row_at (S.Shelf.meaning shelf.now) place) }
 {
     let Ok(Some(marks)) = shelf.marks(place) else {
@@ -62,8 +61,7 @@ fn drops<S: Shelf>(shelf: &S, forget: Forgetting, trail: &Trail, place: usize) -
 /// Clears each lesson that the rule forgets and that is no reason on the trail.
 #[tactic(auto, using(crate::proofs::Lessons::all_kept, crate::proofs::Lessons::all_swept), unfolding(search::specs::Machine::swept))]
 pub fn sweep<S: Shelf>(shelf: &mut S, forget: Forgetting, trail: &Trail)
-    ensures {
-        S.Shelf.meaning shelf.new
+    ensures { S.Shelf.meaning shelf.new
         ≡ swept forget (settled_row trail.now.n trail.now.entries) trail.now.entries
         (S.Shelf.meaning shelf.old) }
 {

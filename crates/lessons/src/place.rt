@@ -41,8 +41,7 @@ fn first_free(places: usize, last: usize, trail: &Trail) -> Option<usize>
 fn first_around<F: Fn(usize) -> bool>(places: usize, last: usize, passes: F) -> Option<usize>
     requires callable { F.IsAlwaysCallable passes }
     requires few { places + 1 < 2 ^ 64 }
-    ensures {
-        (test : ℕ → Bool)
+    ensures { (test : ℕ → Bool)
         → ((place : ℕ) (answer : Bool) → F.post passes place answer → answer ≡ test place)
         → result ≡ find test (around last places) }
 {

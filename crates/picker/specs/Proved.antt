@@ -35,8 +35,11 @@ lowest_free row h =
     let place = position_or_len (λ c. c == 0) row in
     let l : place < length row = ltb-true place (length row) (sym (some_place row) ∙ h) in
     let e : place + 1 - 1 ≡ place = omega arith in
-    record { first = omega arith; last = omega arith;
-          free = rw e (eqb-true _ 0 (passes_at_first (λ c. c == 0) row 1 l)) }
+    record {
+      first = omega arith;
+      last = omega arith;
+      free = rw e (eqb-true _ 0 (passes_at_first (λ c. c == 0) row 1 l));
+    }
 
 pub lowest_sound : (n : ℕ) → is_size n ≡ true → Sound (lowest_picks n)
 lowest_sound n h =
@@ -66,8 +69,8 @@ once_decides ms n =
       λ f.
           and_from_places (list_all once) once refl (λ _ _. refl) parts 0
           (λ k h. let l = rw length-range_with_len at h in
-              subst (λ p. once p ≡ true) (sym (part_at n k l))
-              (eq-eqb (times ms (suc k)) 1 (f k l))),
+          subst (λ p. once p ≡ true) (sym (part_at n k l))
+          (eq-eqb (times ms (suc k)) 1 (f k l))),
     )
 
 -- 1 where the test holds
@@ -88,13 +91,17 @@ hits_cases zero p = inl refl
 hits_cases (suc k) p =
     let before = hits_cases k p in
     ⊎_elim
-    (λ e. inr
-          (omega
-          (arith, ap tally e.0,
-          ⊎_elim {A = hits k p ≡ 0} {C = hits k p ≡ 0} (λ z. z) (λ z. absurd (omega arith)) before),
-          omega arith, omega arith))
+    (λ e. inr (
+      omega (
+        arith,
+        ap tally e.0,
+        ⊎_elim {A = hits k p ≡ 0} {C = hits k p ≡ 0} (λ z. z) (λ z. absurd (omega arith)) before,
+      ),
+      omega arith,
+      omega arith,
+    ))
     (λ e. ⊎_elim (λ z. inl (omega (arith, ap tally e.0)))
-          (λ z. inr (omega (arith, ap tally e.0), z.1, omega arith)) before)
+    (λ z. inr (omega (arith, ap tally e.0), z.1, omega arith)) before)
     (eqb_tells p (suc k))
 
 hits_none : (ms : List Mark) → all_hits 0 ms ≡ 0
@@ -129,7 +136,7 @@ hits_all k [] h = tt
 hits_all k (m ∷ ms) h =
     let few = hits_few k ms in
     ⊎_elim (λ z. absurd (omega arith)) (λ z. ((z.1, z.2), hits_all k ms (omega arith)))
-        (hits_cases k m.part)
+    (hits_cases k m.part)
 
 pub ranked_parts : (ms : List Mark) → is_ranking ms ≡ true → AllByRecursion (Within (length ms)) ms
 ranked_parts ms h =
@@ -159,19 +166,22 @@ pub first_found : (P : Mark → Type 0) (row : List ℕ) (ms : List Mark) → Al
 first_found P row [] a = tt
 first_found P row (m ∷ ms) a =
     cond_both (is_open row m.part) (Some m) (first_open row ms)
-        (λ o. MatchOption o (AllSettled row (m ∷ ms)) (GoodAndOpen P row))
+    (λ o. MatchOption o (AllSettled row (m ∷ ms)) (GoodAndOpen P row))
     (λ e. (a.0, e))
     (λ e. by_cases (GoodAndOpen P row) (GoodAndOpen P row) (first_open row ms)
-          (λ closed. (e, closed)) (λ _ f. f) (first_found P row ms a.1))
+    (λ closed. (e, closed)) (λ _ f. f) (first_found P row ms a.1))
 
 unnamed : (row : List ℕ) (ms : List Mark) (p : ℕ) → is_open row p ≡ true → AllSettled row ms
     → times ms p ≡ 0
 unnamed row [] p h a = refl
 unnamed row (m ∷ ms) p h a =
-    omega (arith,
-          ap tally
+    omega (
+      arith,
+      ap tally
           (ne_eqb m.part p (λ e. both_ways (is_open row m.part) a.0 (ap (is_open row) e ∙ h))),
-          unnamed row ms p h a.1, times_more p m ms)
+      unnamed row ms p h a.1,
+      times_more p m ms,
+    )
 
 -- some mark of the list is open where some part is
 named : (row : List ℕ) (ms : List Mark) → is_ranking ms ≡ true → length row ≡ length ms
@@ -180,9 +190,9 @@ named row ms h l s closed =
     let f = lowest_free row s in
     let k = lowest_open row - 1 in
     let once =
-        (once_decides ms (length ms)).0
-        (and_parts (is_size (length ms)) (each_once (length ms) ms) h).1 k
-        (omega (arith, f.first, f.last)) in
+    (once_decides ms (length ms)).0
+    (and_parts (is_size (length ms)) (each_once (length ms) ms) h).1 k
+    (omega (arith, f.first, f.last)) in
     let e : suc k ≡ lowest_open row = omega (arith, f.first) in
     omega (arith, once, unnamed row ms (suc k) (rw e (eq-eqb _ 0 f.free)) closed)
 
@@ -192,13 +202,16 @@ pub first_free : (row : List ℕ) (ms : List Mark) → is_ranking ms ≡ true
 first_free row ms h a =
     let p = and_parts (is_row (length ms) row) (some_open row) a in
     let l =
-        eqb-true (length row) (length ms)
-        (and_parts (length row == length ms) (all_codes row) p.0).0 in
+    eqb-true (length row) (length ms)
+    (and_parts (length row == length ms) (all_codes row) p.0).0 in
     by_cases (GoodAndOpen (Within (length ms)) row) (λ m. Free (length ms) row m.part)
-        (first_open row ms)
+    (first_open row ms)
     (named row ms h l p.1)
-    (λ m f. record { first = f.0.0; last = f.0.1;
-          free = eqb-true (slice_index_or row (m.part - 1) 1) 0 f.1 })
+    (λ m f. record {
+      first = f.0.0;
+      last = f.0.1;
+      free = eqb-true (slice_index_or row (m.part - 1) 1) 0 f.1;
+    })
     (first_found (Within (length ms)) row ms (ranked_parts ms h))
 
 value_of : (Q : Mark → Type 0) (o : Option Mark) (d : Mark) → MatchOption o ⊥ Q → Q (unwrap_or o d)
@@ -208,8 +221,8 @@ value_of Q (Some m) d h = h
 pub ranked_sound : (ms : List Mark) → is_ranking ms ≡ true → Sound (ranked_picks ms)
 ranked_sound ms h =
     let p =
-        and_parts (nat_le 1 (length ms)) (nat_le (length ms) MOST_PARTS)
-        (and_parts (is_size (length ms)) (each_once (length ms) ms) h).0 in
+    and_parts (nat_le 1 (length ms)) (nat_le (length ms) MOST_PARTS)
+    (and_parts (is_size (length ms)) (each_once (length ms) ms) h).0 in
     record {
       some = leb-true 1 (length ms) p.0;
       few = leb-true (length ms) MOST_PARTS p.1;

@@ -40,9 +40,9 @@ parts_text word row i (name ∷ names) =
 abbrev pub report_text : Report → List ℕ
 report_text r =
     codes "verdict\t"
-        ++ (answer_text r.answer
-        ++ (codes "\nsteps\t"
-        ++ (decimal r.steps ++ (codes "\nturns\t" ++ (decimal r.turns ++ codes "\n")))))
+    ++ (answer_text r.answer
+    ++ (codes "\nsteps\t"
+    ++ (decimal r.steps ++ (codes "\nturns\t" ++ (decimal r.turns ++ codes "\n")))))
 
 -- then the parts of a choice that fits, or the holds that leave none, by rising part
 abbrev pub solution_text : Report → List ℕ → List Piece → List ℕ

@@ -29,10 +29,8 @@ impl<'a, R: RuleList> Scan<'a, R> {
     /// The rules under the row; nothing where the row has fewer codes than the rules have parts.
     pub fn new(rules: &'a R, row: &'a [u8]) -> Option<Scan<'a, R>>
         ensures wide { IsSome result ↔ ((R.listed rules.entry.now).n ≤ length row.entry.now) }
-        ensures value {
-            IfSome result
-            (λ s. (rules_of s ≡ (R.listed rules.entry.now).rules) × (row_of s ≡ row.entry.now))
-        }
+        ensures value { IfSome result
+            (λ s. (rules_of s ≡ (R.listed rules.entry.now).rules) × (row_of s ≡ row.entry.now)) }
     {
         if rules.n() > row.len() {
             return None;
@@ -92,10 +90,8 @@ impl<'a, R: RuleList> Scan<'a, R> {
     // The first broken rule after so many of the list.
     #[tactic(auto, using(crate::proofs::Scans::part_within, crate::proofs::Scans::mark_step, crate::proofs::Scans::marks_end, crate::proofs::Scans::broken_step, rules::proofs::Counted::walking))]
     fn broken_after(&self, from: usize) -> Option<usize>
-        ensures {
-            result
-            ≡ broken_in (first_in (row_of self.now) (from + 1) (drop from (rules_of self.now)))
-        }
+        ensures { result
+            ≡ broken_in (first_in (row_of self.now) (from + 1) (drop from (rules_of self.now))) }
     {
         'rules: for before in from..self.rules.count() {
             let rule = before + 1;

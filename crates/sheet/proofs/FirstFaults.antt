@@ -160,7 +160,7 @@ module _ (n : ℕ) where
             let t : List ℕ = before ++ (l ++ 10 ∷ rest) in
             let long : length t ≡ length before + length l + 1 + length rest = omega (arith, length-append before (l ++ 10 ∷ rest), length-append l (10 ∷ rest)) in
             rw (whole rest)
-              (none_said t (rw (b.on (l ++ 10 ∷ rest) (length t) (omega (arith, long)), lines_feed (length before) l rest inline, judged (length before) (length t) l s (lines (length before + length l + 1) rest) (Err f) (omega (arith, long)) q) refl));
+            (none_said t (rw (b.on (l ++ 10 ∷ rest) (length t) (omega (arith, long)), lines_feed (length before) l rest inline, judged (length before) (length t) l s (lines (length before + length l + 1) rest) (Err f) (omega (arith, long)) q) refl));
         passed = λ _. b.begins;
       }
 
@@ -205,7 +205,7 @@ module _ (n : ℕ) where
         let at : length on ≡ length before + length l + 1 = omega (arith, length-append before (l ++ 10 ∷ []), length-append l (10 ∷ [])) in
         let end : length before + length text ≡ length before + length l + 1 + length g = omega (arith, ap length t.1, length-append l (10 ∷ g)) in
         rw t.1 (fed before l g s f (length before + length l + 1 + length g) i.0 b refl (said_by n (length before) s (line_of (length before) l)) refl (rw (end, t.1, lines_feed (length before) l g i.0) at q)
-          (λ u c r. lines_fault ls on g u f t.2 c (rw at r)))
+        (λ u c r. lines_fault ls on g u f t.2 c (rw at r)))
     | inr t ↦ rw t.0 (open_fault before l s f i.0 t.2 b (rw (t.0, lines_last (length before) l i.0 t.2) at q))
   ]
 

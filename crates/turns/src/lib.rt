@@ -28,9 +28,7 @@ pub struct Reasons<'a, B, S> {
 #[tactic(auto, using(std::proofs::lemmas::Grind::common_steps, std::proofs::lemmas::Option::gets, rules::proofs::Counted::walking), unfolding(search::specs::Trail::enter))]
 pub fn enter<R: RuleList>(list: &R, rule: usize, row: &mut [u8]) -> bool
     ensures there { result ≡ is_some (rule_in (R.RuleList.listed list.now).rules rule) }
-    ensures after {
-        row.new ≡ entered row.old (marks_at (rule_in (R.RuleList.listed list.now).rules rule))
-    }
+    ensures after { row.new ≡ entered row.old (marks_at (rule_in (R.RuleList.listed list.now).rules rule)) }
 {
     let Some(marks) = list.marks(rule) else {
         return false;
@@ -52,10 +50,8 @@ impl<B: Book, S: Shelf> Reasons<'_, B, S> {
     #[tactic(auto, using(std::proofs::lemmas::Grind::common_steps, std::proofs::lemmas::Option::gets), unfolding(search::specs::Machine::rule_at))]
     pub fn enter(&self, reason: Reason, row: &mut [u8]) -> bool
         ensures there { result ≡ is_some (rule_by B.Book.meaning S.Shelf.meaning self.now reason) }
-        ensures after {
-            row.new
-            ≡ entered row.old (marks_at (rule_by B.Book.meaning S.Shelf.meaning self.now reason))
-        }
+        ensures after { row.new
+            ≡ entered row.old (marks_at (rule_by B.Book.meaning S.Shelf.meaning self.now reason)) }
     {
         match reason {
             Reason::Book(rule) => enter(&BookRules(self.book), rule, row),
@@ -66,9 +62,7 @@ impl<B: Book, S: Shelf> Reasons<'_, B, S> {
     /// Resolves a part: the marks of the row and of the reason, each once, without the two marks of that part.
     #[tactic(auto, unfolding(search::specs::Machine::resolve, search::specs::Trail::enter, search::specs::Trail::leave))]
     pub fn resolve(&self, reason: Reason, part: usize, row: &mut [u8])
-        ensures {
-            row.new ≡ resolved part row.old (rule_by B.Book.meaning S.Shelf.meaning self.now reason)
-        }
+        ensures { row.new ≡ resolved part row.old (rule_by B.Book.meaning S.Shelf.meaning self.now reason) }
     {
         if self.enter(reason, row) {
             write(row, part, 0);
@@ -79,10 +73,8 @@ impl<B: Book, S: Shelf> Reasons<'_, B, S> {
     /// which it returns; nothing where the trail's bottom comes first.
     #[tactic(auto, unfolding(search::specs::Machine::turn))]
     pub fn turn(&self, trail: &mut Trail, row: &mut [u8]) -> Option<Mark>
-        ensures turned {
-            outcome result row.new trail.new.entries
-            ≡ turned_at (rule_by B.Book.meaning S.Shelf.meaning self.now) row.old trail.old.entries
-        }
+        ensures turned { outcome result row.new trail.new.entries
+            ≡ turned_at (rule_by B.Book.meaning S.Shelf.meaning self.now) row.old trail.old.entries }
         ensures bottom { result ≡ None → trail.new.entries ≡ [] }
         ensures vacant { IfSome result (λ x. IsTrue (can_settle trail.new x)) }
         ensures parts { trail.new.n ≡ trail.old.n }
