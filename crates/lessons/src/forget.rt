@@ -48,7 +48,8 @@ fn open_marks<S: Shelf>(shelf: &S, place: usize, marks: usize, trail: &Trail) ->
 // Whether the lesson in a place is cleared: it is forgotten, and no reason on the trail.
 #[tactic(auto, unfolding(search::specs::Machine::drops))]
 fn drops<S: Shelf>(shelf: &S, forget: Forgetting, trail: &Trail, place: usize) -> bool
-    ensures { result ≡ drops forget (settled_row trail.now.n trail.now.entries) trail.now.entries place
+    ensures { result
+        ≡ drops forget (settled_row trail.now.n trail.now.entries) trail.now.entries place
         (row_at (S.Shelf.meaning shelf.now) place) }
 {
     let Ok(Some(marks)) = shelf.marks(place) else {

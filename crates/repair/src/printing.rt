@@ -94,7 +94,8 @@ fn put_report(page: &mut Page, report: Report)
 fn put_parts(page: &mut Page, word: &str, row: &[u8], names: &[Name<'_>])
     requires word { length word.now ≤ 4 }
     requires room { array_string_len page.old + LINE_BYTES * length names.now ≤ PAGE_BYTES }
-    ensures { page.new.bytes ≡ page.old.bytes ++ parts_text word.now row.now 0 (map name_of names.now) }
+    ensures { page.new.bytes
+        ≡ page.old.bytes ++ parts_text word.now row.now 0 (map name_of names.now) }
 {
     for (i, name) in names.iter().enumerate() {
         let code = row.get(i).copied().unwrap_or(0);
@@ -106,7 +107,8 @@ fn put_parts(page: &mut Page, word: &str, row: &[u8], names: &[Name<'_>])
 fn put_part(page: &mut Page, word: &str, part: usize, code: u8, name: Name<'_>)
     requires word { length word.now ≤ 4 }
     requires room { array_string_len page.old + LINE_BYTES ≤ PAGE_BYTES }
-    ensures text { page.new.bytes ≡ page.old.bytes ++ part_text word.now part code name.entry.text.now }
+    ensures text { page.new.bytes
+        ≡ page.old.bytes ++ part_text word.now part code name.entry.text.now }
     ensures short { array_string_len page.new ≤ array_string_len page.old + LINE_BYTES }
 {
     if let Ok(side) = Side::try_from(u64::from(code)) {
@@ -119,7 +121,8 @@ fn put_part(page: &mut Page, word: &str, part: usize, code: u8, name: Name<'_>)
 fn put_line(page: &mut Page, word: &str, part: usize, side: Side, name: Name<'_>)
     requires word { length word.now ≤ 4 }
     requires room { array_string_len page.old + LINE_BYTES ≤ PAGE_BYTES }
-    ensures text { page.new.bytes ≡ page.old.bytes ++ side_line word.now part name.entry.text.now side }
+    ensures text { page.new.bytes
+        ≡ page.old.bytes ++ side_line word.now part name.entry.text.now side }
     ensures short { array_string_len page.new ≤ array_string_len page.old + LINE_BYTES }
 {
     page.push_str(word);

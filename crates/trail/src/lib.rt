@@ -154,7 +154,8 @@ impl Trail {
 
     // The first of the marks that is false.
     fn first_false(&self, marks: &[Mark]) -> Option<Mark>
-        ensures { result ≡ find (λ m. says_false (truth (row_of self.now.n self.now.entries) m)) marks.now }
+        ensures { result
+            ≡ find (λ m. says_false (truth (row_of self.now.n self.now.entries) m)) marks.now }
     {
         marks.iter().copied().find(|mark| self.is_false(*mark))
     }
@@ -169,7 +170,8 @@ impl Trail {
 
     /// The earliest of the holds whose part is open.
     pub fn first_open(&self, holds: &[Mark]) -> Option<Mark>
-        ensures { result ≡ find (λ h. says_open (truth (row_of self.now.n self.now.entries) h)) holds.now }
+        ensures { result
+            ≡ find (λ h. says_open (truth (row_of self.now.n self.now.entries) h)) holds.now }
     {
         holds.iter().copied().find(|hold| self.is_open(*hold))
     }

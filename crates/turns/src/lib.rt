@@ -28,7 +28,8 @@ pub struct Reasons<'a, B, S> {
 #[tactic(auto, using(std::proofs::lemmas::Grind::common_steps, std::proofs::lemmas::Option::gets, rules::proofs::Counted::walking), unfolding(search::specs::Trail::enter))]
 pub fn enter<R: RuleList>(list: &R, rule: usize, row: &mut [u8]) -> bool
     ensures there { result ≡ is_some (rule_in (R.RuleList.listed list.now).rules rule) }
-    ensures after { row.new ≡ entered row.old (marks_at (rule_in (R.RuleList.listed list.now).rules rule)) }
+    ensures after { row.new
+        ≡ entered row.old (marks_at (rule_in (R.RuleList.listed list.now).rules rule)) }
 {
     let Some(marks) = list.marks(rule) else {
         return false;
@@ -62,7 +63,8 @@ impl<B: Book, S: Shelf> Reasons<'_, B, S> {
     /// Resolves a part: the marks of the row and of the reason, each once, without the two marks of that part.
     #[tactic(auto, unfolding(search::specs::Machine::resolve, search::specs::Trail::enter, search::specs::Trail::leave))]
     pub fn resolve(&self, reason: Reason, part: usize, row: &mut [u8])
-        ensures { row.new ≡ resolved part row.old (rule_by B.Book.meaning S.Shelf.meaning self.now reason) }
+        ensures { row.new
+            ≡ resolved part row.old (rule_by B.Book.meaning S.Shelf.meaning self.now reason) }
     {
         if self.enter(reason, row) {
             write(row, part, 0);
