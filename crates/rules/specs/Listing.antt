@@ -8,7 +8,6 @@ use Rattle.parts.specs.Lists.{at_place}
 use Rattle.parts.specs.Rows.{row_marks}
 use Rattle.book.specs.Meaning.{Rule, RuleBook}
 use Rattle.shelf.specs.Meaning.{Shelved}
-pub use Rattle.shelf.specs.Meaning.{last_part}
 
 pub record Listed : Type 0 where
   pub n : ℕ

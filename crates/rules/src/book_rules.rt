@@ -30,9 +30,7 @@ impl<B: Book> RuleList for BookRules<'_, B> {
         self.0.marks(rule)
     }
 
-    #[tactic(auto, using(std::proofs::lemmas::Grind::common_steps, std::proofs::lemmas::Option::gets))]
-    // A book answers by a mark's place, so it needs no part.
-    fn mark_after(&self, rule: usize, passed: usize, _part: usize) -> Option<Mark> {
-        self.0.mark(rule, passed + 1)
+    fn mark(&self, rule: usize, place: usize) -> Option<Mark> {
+        self.0.mark(rule, place)
     }
 }

@@ -1,10 +1,8 @@
 //! Lists of rules: a book's rules, and a shelf's lessons, by their numbers.
 #![tactic(auto)]
 
-ghost use Rattle.std.specs.Prelude.{◌≡◌, ◌+◌, [], length};
-ghost use Rattle.std.specs.Option.{unwrap_or};
-ghost use Rattle.shelf.specs.Meaning.{HasPassed};
-ghost use Rattle.rules.specs.Listing.{Listed, SoundList, rule_in, marks_in, mark_in};
+ghost use Rattle.std.specs.Prelude.{◌≡◌, length};
+ghost use Rattle.rules.specs.Listing.{Listed, SoundList, marks_in, mark_in};
 
 mod book_rules;
 mod shelf_rules;
@@ -35,9 +33,7 @@ pub trait RuleList {
     fn marks(&self, rule: usize) -> Option<usize>
         ensures { result ≡ marks_in (listed self.now).rules rule };
 
-    /// The mark of a rule after so many passed, the last of which names that part
-    /// (0 where none is passed); nothing where there is none. A rule is walked along once by it.
-    fn mark_after(&self, rule: usize, passed: usize, part: usize) -> Option<Mark>
-        requires { HasPassed (unwrap_or (rule_in (listed self.now).rules rule) []) passed part }
-        ensures { result ≡ mark_in (listed self.now).rules rule (passed + 1) };
+    /// The mark at a place of a rule, counted from 1; nothing where there is none.
+    fn mark(&self, rule: usize, place: usize) -> Option<Mark>
+        ensures { result ≡ mark_in (listed self.now).rules rule place };
 }

@@ -30,7 +30,7 @@ impl<S: Shelf> RuleList for ShelfRules<'_, S> {
     }
 
     #[tactic(auto, using(std::proofs::lemmas::Grind::common_steps, std::proofs::lemmas::Option::gets))]
-    fn mark_after(&self, rule: usize, passed: usize, part: usize) -> Option<Mark> {
-        self.0.mark_after(rule, passed, part).ok()?
+    fn mark(&self, rule: usize, place: usize) -> Option<Mark> {
+        self.0.mark(rule, place).ok()?
     }
 }

@@ -15,8 +15,8 @@ fn answers<R: RuleList>(rt: &impl Abort, list: &R) {
         part: 3,
         side: Side::Out,
     };
-    assert_eq!(rt; list.mark_after(2, 1, 1), Some(last));
-    assert_eq!(rt; list.mark_after(2, 2, 3), None);
+    assert_eq!(rt; list.mark(2, 2), Some(last));
+    assert_eq!(rt; list.mark(2, 3), None);
     assert_eq!(rt; list.marks(4), None);
 }
 

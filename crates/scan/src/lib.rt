@@ -39,7 +39,7 @@ impl<'a, R: RuleList> Scan<'a, R> {
     }
 
     /// The first broken rule, else the first pressing one with its open mark, else nothing.
-    #[tactic(auto, using(crate::proofs::Scans::part_within, crate::proofs::Scans::steps, rules::proofs::Counted::walking))]
+    #[tactic(auto, using(crate::proofs::Scans::part_within, crate::proofs::Scans::steps))]
     pub fn first(&self) -> Scanned
         ensures { result ≡ first_in (row_of self.now) 1 (rules_of self.now) }
     {
@@ -49,13 +49,11 @@ impl<'a, R: RuleList> Scan<'a, R> {
                 continue 'rules;
             };
             let mut free = None;
-            let mut part = 0;
             'marks: for passed in 0..marks {
                 // There is one: as many were counted.
-                let Some(mark) = self.rules.mark_after(rule, passed, part) else {
+                let Some(mark) = self.rules.mark(rule, passed + 1) else {
                     continue 'rules;
                 };
-                part = mark.part;
                 let code = self.row[mark.part - 1];
                 if code == u8::from(mark.side) {
                     continue 'rules;
@@ -88,7 +86,7 @@ impl<'a, R: RuleList> Scan<'a, R> {
     }
 
     // The first broken rule after so many of the list.
-    #[tactic(auto, using(crate::proofs::Scans::part_within, crate::proofs::Scans::mark_step, crate::proofs::Scans::marks_end, crate::proofs::Scans::broken_step, rules::proofs::Counted::walking))]
+    #[tactic(auto, using(crate::proofs::Scans::part_within, crate::proofs::Scans::mark_step, crate::proofs::Scans::marks_end, crate::proofs::Scans::broken_step))]
     fn broken_after(&self, from: usize) -> Option<usize>
         ensures { result
             ≡ broken_in (first_in (row_of self.now) (from + 1) (drop from (rules_of self.now))) }
@@ -98,12 +96,10 @@ impl<'a, R: RuleList> Scan<'a, R> {
             let Some(marks) = self.rules.marks(rule) else {
                 continue 'rules;
             };
-            let mut part = 0;
-            for passed in 0..marks {
-                let Some(mark) = self.rules.mark_after(rule, passed, part) else {
+            for at in 0..marks {
+                let Some(mark) = self.rules.mark(rule, at + 1) else {
                     continue 'rules;
                 };
-                part = mark.part;
                 let code = self.row[mark.part - 1];
                 // Stays in this order: where the side is known first, the two are one test in the program.
                 if code == u8::from(mark.side) || code == 0 {

@@ -1,4 +1,3 @@
-pub mod Passed
 mod Walks
 mod Blocks
 mod Marks

@@ -1,7 +1,7 @@
 -- A shelf as a grid of codes: for each place an entry that is 0 where it is empty,
--- else 1 more than how many marks its row names, and then n codes.
-use Rattle.std.specs.Prelude.{ℕ, suc, Bool, List, ◌∷◌, drop, length, Option, ◌&&◌, ◌||◌, ◌==◌, slice_index}
-use Rattle.parts.specs.Rows.{Row, row_marks}
+-- and then n codes.
+use Rattle.std.specs.Prelude.{ℕ, Bool, List, ◌∷◌, drop, Option}
+use Rattle.parts.specs.Rows.{Row}
 use Rattle.shelf.specs.Meaning.{Shelved, sound_place}
 use Rattle.shelf.specs.Table.{read_block, read_by}
 
@@ -11,18 +11,14 @@ grid_row block = drop 1 block
 
 -- the entries for a row
 abbrev pub grid_block : Row → List ℕ
-grid_block row = suc (length (row_marks row)) ∷ row
+grid_block row = 1 ∷ row
 
 abbrev pub read_codes : List ℕ → Option Row
 read_codes block = read_block grid_row block
 
--- whether a block is well formed: empty, or with a row of n codes and the count of its marks
-abbrev pub is_counted : List ℕ → Bool
-is_counted block =
-    slice_index block 0 == 0 || slice_index block 0 == suc (length (row_marks (grid_row block)))
-
+-- whether a block is well formed: empty, or with a row of n codes
 abbrev pub formed_codes : ℕ → List ℕ → Bool
-formed_codes n block = sound_place n (read_codes block) && is_counted block
+formed_codes n block = sound_place n (read_codes block)
 
 abbrev pub grid : ℕ → ℕ → List ℕ → Shelved
 grid n places entries = read_by read_codes n places entries

@@ -1,8 +1,8 @@
 -- What a shelf means: n parts, and for each place a row of n codes or nothing
 -- (a store of learned clauses).
-use Rattle.std.specs.Prelude.{◌≡◌, ℕ, zero, suc, ◌-◌, ◌≤◌, Bool, true, IsTrue, if◌then◌else◌, ◌&&◌, List, [], length, Some, None, Ok, Err, Option, Result, nat_le, slice_index, slice_index_or, slice_set}
+use Rattle.std.specs.Prelude.{ℕ, zero, suc, ◌-◌, ◌≤◌, Bool, true, IsTrue, if◌then◌else◌, ◌&&◌, List, length, Some, None, Ok, Err, Option, Result, nat_le, slice_index, slice_index_or, slice_set}
 use Rattle.std.specs.List.{list_all}
-use Rattle.std.specs.Option.{option_map, option_and_then, unwrap_or}
+use Rattle.std.specs.Option.{option_map, option_and_then}
 use Rattle.parts.specs.Codes.{is_row}
 use Rattle.parts.specs.declared.limits.TheConstants.{MOST_PARTS, MOST_PLACES}
 use Rattle.parts.specs.declared.mark.Mark.{Mark}
@@ -58,19 +58,6 @@ mark_of_place s place k =
     if is_place (length s.rows) place
     then Ok (option_and_then (λ row. at_place (row_marks row) k) (row_at s place))
     else Err ShelfOutOfRange
-
--- the marks of a place's row, by rising part; none where it is empty, or out of range
-abbrev pub marks_on : Shelved → ℕ → List Mark
-marks_on s place = row_marks (unwrap_or (row_at s place) [])
-
--- the part that the last of so many marks names; 0 where there is none
-unfoldable pub last_part : List Mark → ℕ → ℕ
-last_part ms passed = unwrap_or (option_map (λ m. m.part) (at_place ms passed)) 0
-
--- so many of the marks are passed, the last of which names that part
-pub record HasPassed (ms : List Mark) (passed part : ℕ) : Type 0 where
-  pub few : passed ≤ length ms
-  pub last : part ≡ last_part ms passed
 
 -- whether a row may be put at a place, and whether a place may be emptied
 abbrev pub can_write : Shelved → ℕ → Row → Bool

@@ -9,7 +9,6 @@ use Rattle.parts.specs.Codes.{all_codes}
 use Rattle.parts.specs.declared.mark.Mark.{Mark}
 use Rattle.shelf.specs.Meaning.{Sound, sound_place}
 use Rattle.shelf.specs.Table.{Sized, blocks, read_by}
-use Rattle.shelf.specs.Grid.{formed_codes, read_codes}
 use Rattle.shelf.specs.Listed.{block_marks, formed_marks, code_in, codes_by, read_marks}
 
 pub length_blocks : {X : Type 0} (width places : ℕ) (entries : List X)
@@ -44,11 +43,6 @@ module _ {X : Type 0} (row : List X → Option (List ℕ)) (n : ℕ) where
           most = omega arith;
           rows_sound = rows_sound (blocks (n + 1) places entries) h;
         }
-
--- what a block of codes that is well formed holds
-pub codes_sound : (n : ℕ) (block : List ℕ) → formed_codes n block ≡ true
-    → sound_place n (read_codes block) ≡ true
-codes_sound n block h = grind arith
 
 -- whatever the marks are, the codes that they give are a row
 code_in_low : (ms : List Mark) (part : ℕ) → nat_le (code_in ms part) 2 ≡ true

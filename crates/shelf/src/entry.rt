@@ -1,11 +1,11 @@
 //! How a place of a shelf stands in its block of n + 1 entries:
 //! what kind of entry they are, and how a row is written there and read.
-ghost use Rattle.std.specs.Prelude.{◌≡◌, ℕ, ◌+◌, ◌-◌, ◌<◌, ◌≤◌, Bool, IsTrue, List, [], ◌∷◌, ◌++◌, length, drop, Some, None, Option, slice_index};
-ghost use Rattle.std.specs.Option.{option_map, option_and_then, unwrap_or};
+ghost use Rattle.std.specs.Prelude.{◌≡◌, ℕ, ◌+◌, ◌-◌, ◌<◌, ◌≤◌, Bool, IsTrue, List, ◌∷◌, ◌++◌, length, drop, Some, None, Option, slice_index};
+ghost use Rattle.std.specs.Option.{option_map, option_and_then};
 ghost use Rattle.parts.specs.Codes.{is_row};
 ghost use Rattle.parts.specs.Rows.{Row, row_marks};
 ghost use Rattle.parts.specs.Lists.{at_place};
-ghost use Rattle.shelf.specs.Meaning.{HasPassed, sound_place};
+ghost use Rattle.shelf.specs.Meaning.{sound_place};
 ghost use Rattle.shelf.specs.Table.{parts_of};
 
 use parts::Mark;
@@ -51,15 +51,6 @@ pub trait Entry: Copy {
     fn mark(block: &[Self], k: usize) -> Option<Mark>
         requires kept { IsTrue (formed (parts_of block.now) block.now) }
         ensures { result ≡ option_and_then (λ row. at_place (row_marks row) k)
-            (row_in (parts_of block.now) block.now) };
-
-    /// The mark of a block's row after so many passed, the last of which names that part
-    /// (0 where none is passed); nothing where there is none.
-    fn mark_after(block: &[Self], passed: usize, part: usize) -> Option<Mark>
-        requires kept { IsTrue (formed (parts_of block.now) block.now) }
-        requires passed { HasPassed
-            (row_marks (unwrap_or (row_in (parts_of block.now) block.now) [])) passed part }
-        ensures { result ≡ option_and_then (λ row. at_place (row_marks row) (passed + 1))
             (row_in (parts_of block.now) block.now) };
 
     /// Writes a row into a block, whatever stood there;

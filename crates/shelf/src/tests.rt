@@ -89,12 +89,11 @@ struct Walked {
 }
 
 impl Shelf for Walked {
-    ghost use Rattle.shelf.specs.Proved.{table_sound, codes_sound};
+    ghost use Rattle.shelf.specs.Proved.{table_sound};
 
     ghost meaning = { λ s. grid_meaning s.grid };
 
-    ghost sound = { λ s. table_sound read_codes s.grid.n (formed_codes s.grid.n)
-        (codes_sound s.grid.n)
+    ghost sound = { λ s. table_sound read_codes s.grid.n (formed_codes s.grid.n) (λ block h. h)
         s.grid.places (vec_len s.grid.table) s.grid.table.items s.grid.sized s.grid.kept };
 
     fn n(&self) -> usize {
@@ -137,7 +136,6 @@ fn keeps_rows<S: Shelf>(rt: &impl Abort, shelf: &mut S) {
     assert_eq!(rt; shelf.marks(2), Ok(Some(2)));
     assert_eq!(rt; shelf.mark(2, 2), Ok(Some(IN_3)));
     assert_eq!(rt; shelf.mark(2, 3), Ok(None));
-    assert_eq!(rt; shelf.mark_after(2, 1, 1), Ok(Some(IN_3)));
     assert_eq!(rt; shelf.code(3, 1), Ok(None));
 }
 

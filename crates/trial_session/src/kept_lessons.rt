@@ -57,7 +57,7 @@ pub fn compare_marks<S: Shelf>(trial: &mut Trial, shelf: &S) -> anyhow::Result<(
 
 // The row of the marks that a place has.
 fn lesson_by_marks<S: Shelf>(heap: Global, shelf: &S, place: usize) -> Result<Found, AllocError> {
-    let Some(marks) = shelf.marks(place) else {
+    let Ok(Some(marks)) = shelf.marks(place) else {
         return Ok(Ok(None));
     };
     let mut row = vec![in heap; 0u8; shelf.n()]?;
@@ -67,7 +67,7 @@ fn lesson_by_marks<S: Shelf>(heap: Global, shelf: &S, place: usize) -> Result<Fo
 // Fills a row with the codes of a place's marks; refused where a mark is missing or of no part.
 fn fill<S: Shelf>(row: &mut [u8], shelf: &S, place: usize, marks: usize) -> Result<(), Refusal> {
     for k in 1..=marks {
-        let mark = shelf.mark(place, k).ok_or(Refusal::ShelfOutOfRange)?;
+        let mark = shelf.mark(place, k)?.ok_or(Refusal::ShelfOutOfRange)?;
         let code = code_of(row, mark.part).ok_or(Refusal::PartOutOfRange)?;
         *code = u8::from(mark.side);
     }

@@ -25,7 +25,7 @@ pub struct Reasons<'a, B, S> {
 
 /// Writes the marks of a rule into a row, and returns whether there is such a rule.
 // Stays a bool, as does that for a reason below: the marks are in the row, and there is no value to return beside it.
-#[tactic(auto, using(std::proofs::lemmas::Grind::common_steps, std::proofs::lemmas::Option::gets, rules::proofs::Counted::walking), unfolding(search::specs::Trail::enter))]
+#[tactic(auto, using(std::proofs::lemmas::Grind::common_steps, std::proofs::lemmas::Option::gets), unfolding(search::specs::Trail::enter))]
 pub fn enter<R: RuleList>(list: &R, rule: usize, row: &mut [u8]) -> bool
     ensures there { result ≡ is_some (rule_in (R.RuleList.listed list.now).rules rule) }
     ensures after { row.new
@@ -34,13 +34,11 @@ pub fn enter<R: RuleList>(list: &R, rule: usize, row: &mut [u8]) -> bool
     let Some(marks) = list.marks(rule) else {
         return false;
     };
-    let mut part = 0;
-    for passed in 0..marks {
+    for before in 0..marks {
         // There is one: as many were counted.
-        let Some(mark) = list.mark_after(rule, passed, part) else {
+        let Some(mark) = list.mark(rule, before + 1) else {
             break;
         };
-        part = mark.part;
         write(row, mark.part, u8::from(mark.side));
     }
     true

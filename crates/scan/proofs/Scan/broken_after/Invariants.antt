@@ -1,5 +1,5 @@
 use Rattle.std.proofs.Common.{◌≡◌, ◌+◌}
-use Rattle.rules.specs.Listing.{rule_in, last_part}
+use Rattle.rules.specs.Listing.{rule_in}
 use Rattle.search.specs.Machine.{marks_at}
 use Rattle.search.specs.Trail.{state}
 use Rattle.scan.specs.Scanning.{first_in, broken_in}
@@ -12,7 +12,7 @@ invariant-rules g l =
     broken_in (first_in (row_of l.self) (l.before + 1) (onward (l.before + 1) (rules_of l.self)))
     ≡ broken_in (first_in (row_of l.self) (l.fn.from + 1) (onward (l.fn.from + 1) (rules_of l.self)))
 
-abbrev pub invariant-loop-passed : goal.invariant-loop-passed
-invariant-loop-passed g l =
+abbrev pub invariant-loop-at : goal.invariant-loop-at
+invariant-loop-at g l =
     let ms = marks_at (rule_in (rules_of l.self) l.rule) in
-    (state (row_of l.self) (onward (l.passed + 1) ms) ≡ state (row_of l.self) ms) × (l.part ≡ last_part ms l.passed)
+    state (row_of l.self) (onward (l.at + 1) ms) ≡ state (row_of l.self) ms

@@ -1,5 +1,5 @@
 use Rattle.std.proofs.Common.{◌≡◌, ◌+◌}
-use Rattle.rules.specs.Listing.{rule_in, last_part}
+use Rattle.rules.specs.Listing.{rule_in}
 use Rattle.search.specs.Machine.{marks_at}
 use Rattle.search.specs.Trail.{state}
 use Rattle.scan.specs.Scanning.{first_in}
@@ -14,4 +14,4 @@ invariant-rules g l =
 abbrev pub invariant-marks : goal.invariant-marks
 invariant-marks g l =
     let ms = marks_at (rule_in (rules_of l.self) l.rule) in
-    (free l.free (state (row_of l.self) (onward (l.passed + 1) ms)) ≡ state (row_of l.self) ms) × (l.part ≡ last_part ms l.passed)
+    free l.free (state (row_of l.self) (onward (l.passed + 1) ms)) ≡ state (row_of l.self) ms

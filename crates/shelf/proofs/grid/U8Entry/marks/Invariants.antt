@@ -2,7 +2,7 @@ use Rattle.std.proofs.Common.{◌≡◌, ◌+◌, ◌≤◌, true, length, drop}
 use Rattle.parts.specs.Codes.{all_codes}
 use Rattle.parts.specs.Rows.{row_marks}
 use Rattle.shelf.proofs.Walks.{left_from}
-use Rattle.shelf.proofs.grid.named.Given as goal
+use Rattle.shelf.proofs.grid.U8Entry.marks.Given as goal
 
 abbrev pub invariant-loop-code : goal.invariant-loop-code
 invariant-loop-code l =
