@@ -24,15 +24,23 @@ pub fn is_forgotten(forget: Forgetting, marks: usize, unsettled: usize) -> bool
 }
 
 // How many marks of the lesson in a place are open under the trail.
+#[tactic(auto, using(crate::proofs::Lessons::open_none, crate::proofs::Lessons::open_end))]
 fn open_marks<S: Shelf>(shelf: &S, place: usize, marks: usize, trail: &Trail) -> usize
     requires { Ok (Some marks) ≡ marks_of_place (S.Shelf.meaning shelf.now) place }
     ensures { result ≡ open_count (settled_row trail.now.n trail.now.entries)
         (row_marks (unwrap_or (row_at (S.Shelf.meaning shelf.now) place) [])) }
 {
-    (1..=marks)
-        .filter_map(|k| shelf.mark(place, k).ok().flatten())
-        .filter(|mark| trail.is_open(*mark))
-        .count()
+    let mut unsettled = 0;
+    for passed in 0..marks {
+        // There is one: as many were counted.
+        let Ok(Some(mark)) = shelf.mark(place, passed + 1) else {
+            break;
+        };
+        if trail.is_open(mark) {
+            unsettled += 1;
+        }
+    }
+    unsettled
 }
 
 // Whether the lesson in a place is cleared: it is forgotten, and no reason on the trail.

@@ -3,7 +3,7 @@
 
 use anyhow::Context;
 use grammar::Size;
-use parts::refusals::Fault;
+use parts::Fault;
 use reading::read;
 use std::alloc::{AllocError, Global};
 use std::fs;
