@@ -1,7 +1,6 @@
 // The names of the parts.
 use crate::command::number;
 use sheet::Name;
-use std::str;
 
 // The names of a sheet, from part 1 on; none where there is no sheet.
 #[derive(Clone, Copy)]
@@ -27,15 +26,12 @@ impl<'a> Names<'a> {
 
     // The first part of that name.
     fn named(&self, word: &str) -> Option<usize> {
-        let place = self
-            .names
-            .iter()
-            .position(|name| name.bytes == word.as_bytes())?;
+        let place = self.names.iter().position(|name| name.text == word)?;
         place.checked_add(1)
     }
 
     // The name at a place of a row, counted from 0.
     pub fn at(&self, place: usize) -> Option<&'a str> {
-        str::from_utf8(self.names.get(place)?.bytes).ok()
+        Some(self.names.get(place)?.text)
     }
 }
