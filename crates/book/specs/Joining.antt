@@ -1,5 +1,5 @@
 -- Two books joined: the first's rules before the second's (a conjunction of two formulas).
-use Rattle.std.specs.Prelude.{◌+◌, Bool, if◌then◌else◌, ◌&&◌, ◌++◌, length, ◌==◌, nat_le}
+use Rattle.std.specs.Prelude.{◌+◌, Bool, if◌then◌else◌, ◌&&◌, [], ◌++◌, length, ◌==◌, nat_le}
 use Rattle.parts.specs.declared.limits.TheConstants.{MOST_RULES}
 use Rattle.parts.specs.declared.refusal.Refusal.{Refusal}
 use Rattle.parts.specs.declared.refusal.Refusal.TheVariants.{JoinPartsDiffer, JoinTooManyRules}
@@ -13,6 +13,13 @@ joinable f s = f.n == s.n && nat_le (length f.rules + length s.rules) MOST_RULES
 abbrev pub join_refusal : RuleBook → RuleBook → Refusal
 join_refusal f s = if f.n == s.n then JoinTooManyRules else JoinPartsDiffer
 
--- what two books mean together: the first's rules, then the second's
+-- the first's rules, then the second's
 abbrev pub both_rules : RuleBook → RuleBook → RuleBook
 both_rules f s = record { n = f.n; rules = f.rules ++ s.rules }
+
+-- what two books mean together: the second adds its rules only where the two may be joined
+abbrev pub joined_rules : RuleBook → RuleBook → RuleBook
+joined_rules f s = record {
+  n = f.n;
+  rules = f.rules ++ (if joinable f s then s.rules else []);
+}

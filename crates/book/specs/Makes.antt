@@ -2,11 +2,10 @@
 use Rattle.book.specs.Meaning.{RuleBook}
 use Rattle.std.specs.Prelude.{vec_items}
 use Rattle.book.specs.Tables.{book_in}
-use Rattle.book.specs.Joining.{both_rules}
+use Rattle.book.specs.Joining.{joined_rules}
 use Rattle.book.specs.declared.text.Tables.{Tables}
 use Rattle.book.specs.declared.text.TextBook.{TextBook}
 use Rattle.book.specs.declared.joined.Joined.{Joined}
-use Rattle.book.specs.declared.Book.{Ghosts}
 
 -- the two tables
 abbrev pub tables_of : TextBook → Tables
@@ -16,11 +15,11 @@ tables_of b = b.tables
 abbrev pub text_book : TextBook → RuleBook
 text_book b = book_in b.n b.rules (vec_items b.tables.marks) (vec_items b.tables.ends)
 
-module _ {F S : Type 0} {f : Ghosts F} {s : Ghosts S} where
+module _ {F S : Type 0} where
   -- the two books that were joined
-  abbrev pub books_of : Joined F S f s → F × S
+  abbrev pub books_of : Joined F S → F × S
   books_of j = (j.first, j.second)
 
-  -- what they mean together
-  abbrev pub joined_book : Joined F S f s → RuleBook
-  joined_book j = both_rules (f.meaning j.first) (s.meaning j.second)
+  -- what they mean together, from what each means
+  abbrev pub joined_book : (F → RuleBook) → (S → RuleBook) → Joined F S → RuleBook
+  joined_book f s j = joined_rules (f j.first) (s j.second)

@@ -2,14 +2,15 @@
 -- checker wants beside the definitions.
 use Rattle.std.specs.Prelude.{◌≡◌, ℕ, suc, ◌+◌, ◌≤◌, min, IsTrue, true, List, [], ◌∷◌, ◌++◌, length, take, ℤ, ◌==◌, nat_le, refl}
 use Rattle.std.proofs.Common.{ap, arith, ◌∙◌, length-append, length-take}
-use Rattle.std.proofs.lemmas.Bool.{and_parts, and_from, eqb-true, leb-true}
+use Rattle.std.proofs.lemmas.Bool.{and_parts, and_from, eqb-true, leb-true, cond_both}
+use Rattle.std.proofs.lemmas.List.{append-nil}
 use Rattle.std.proofs.lemmas.List.Folds.{list_all-append}
 use Rattle.parts.specs.declared.limits.TheConstants.{MOST_PARTS, MOST_RULES, MOST_TEXT_RULES}
 use Rattle.parts.specs.declared.mark.Mark.{Mark}
 use Rattle.parts.specs.Distinct.{is_distinct}
 use Rattle.book.specs.Meaning.{Rule, RuleBook, Sound, sound_rule, sound_rules}
 use Rattle.book.specs.Tables.{cut, rising, marks_limit, has_book, book_in}
-use Rattle.book.specs.Joining.{joinable, both_rules}
+use Rattle.book.specs.Joining.{joinable, both_rules, joined_rules}
 
 -- a rule of a book is a list of marks of distinct parts: whoever needs no more of it asks for this
 pub rule_distinct : (n : ℕ) (r : Rule) → sound_rule n r ≡ true → is_distinct n r ≡ true
@@ -60,9 +61,9 @@ pub sound_rules-append : (n : ℕ) (rs ss : List Rule) → sound_rules n rs ≡ 
     → sound_rules n ss ≡ true → sound_rules n (rs ++ ss) ≡ true
 sound_rules-append n rs ss h k = list_all-append (sound_rule n) rs ss ∙ and_from _ _ h k
 
-pub joined_sound : (f s : RuleBook) → joinable f s ≡ true → Sound f → Sound s
+pub both_sound : (f s : RuleBook) → joinable f s ≡ true → Sound f → Sound s
     → Sound (both_rules f s)
-joined_sound f s h p q =
+both_sound f s h p q =
     let j = and_parts (f.n == s.n) (nat_le (length f.rules + length s.rules) MOST_RULES) h in
     let e = eqb-true f.n s.n j.0 in
     record {
@@ -71,3 +72,18 @@ joined_sound f s h p q =
       rules_few = rw length-append (leb-true (length f.rules + length s.rules) MOST_RULES j.1);
       rules_sound = sound_rules-append f.n f.rules s.rules p.rules_sound (rw e q.rules_sound);
     }
+
+first_sound : (f : RuleBook) → Sound f → Sound (record { n = f.n; rules = f.rules ++ [] })
+first_sound f p =
+    record {
+      some = p.some;
+      few = p.few;
+      rules_few = rw append-nil p.rules_few;
+      rules_sound = rw append-nil p.rules_sound;
+    }
+
+pub joined_sound : (f s : RuleBook) → Sound f → Sound s → Sound (joined_rules f s)
+joined_sound f s p q =
+    cond_both (joinable f s) s.rules [] (λ rs. Sound (record { n = f.n; rules = f.rules ++ rs }))
+    (λ h. both_sound f s h p q)
+    (λ _. first_sound f p)

@@ -7,11 +7,12 @@ use parts::limits::MOST_RULES;
 use parts::{Mark, Refusal, Refused};
 
 /// Two books as one (a conjunction); either may be a joined one.
+// Stays without bounds, so that who only hands one on names none: a fact that the two may be joined would need them,
+// and so each answer asks.
 #[derive(Drop)]
-pub struct Joined<F: Book, S: Book> {
+pub struct Joined<F, S> {
     first: F,
     second: S,
-    ghost fit: { IsTrue (joinable (F.meaning first) (S.meaning second)) },
 }
 
 impl<F: Book, S: Book> Joined<F, S> {
@@ -25,7 +26,8 @@ impl<F: Book, S: Book> Joined<F, S> {
             (λ e. IsFalse (joinable (F.meaning first) (S.meaning second))) }
         ensures value { MatchResult result
             (λ j. (books_of j ≡ (first, second))
-            × (joined_book j ≡ both_rules (F.meaning first) (S.meaning second)))
+            × (joined_book F.meaning S.meaning j
+            ≡ both_rules (F.meaning first) (S.meaning second)))
             (λ e. e
             ≡ record {
               refusal = join_refusal (F.meaning first) (S.meaning second);
@@ -38,7 +40,7 @@ impl<F: Book, S: Book> Joined<F, S> {
                 back: (first, second),
             });
         }
-        if first.rules() + second.rules() > MOST_RULES {
+        if !may_join(&first, &second) {
             return Err(Refused {
                 refusal: Refusal::JoinTooManyRules,
                 back: (first, second),
@@ -46,6 +48,10 @@ impl<F: Book, S: Book> Joined<F, S> {
         }
         Ok(Joined { first, second })
     }
+}
+
+impl<F, S> Joined<F, S> {
+    ghost use Rattle.book.specs.Makes.{books_of};
 
     /// Both books, as they were joined.
     pub fn into_books(self) -> (F, S)
@@ -60,9 +66,9 @@ impl<F: Book, S: Book> Book for Joined<F, S> {
     ghost use Rattle.book.specs.Makes.{joined_book};
     ghost use Rattle.book.specs.Proved.{joined_sound};
 
-    ghost meaning = { joined_book };
+    ghost meaning = { joined_book F.meaning S.meaning };
 
-    ghost sound = { λ j. joined_sound (F.meaning j.first) (S.meaning j.second) j.fit
+    ghost sound = { λ j. joined_sound (F.meaning j.first) (S.meaning j.second)
         (F.sound j.first)
         (S.sound j.second) };
 
@@ -71,24 +77,40 @@ impl<F: Book, S: Book> Book for Joined<F, S> {
     }
 
     fn rules(&self) -> usize {
-        self.first.rules() + self.second.rules()
+        let before = self.first.rules();
+        if may_join(&self.first, &self.second) {
+            before + self.second.rules()
+        } else {
+            before
+        }
     }
 
     fn marks(&self, rule: usize) -> Option<usize> {
         let before = self.first.rules();
         if rule <= before {
-            self.first.marks(rule)
-        } else {
-            self.second.marks(rule - before)
+            return self.first.marks(rule);
         }
+        if may_join(&self.first, &self.second) {
+            return self.second.marks(rule - before);
+        }
+        None
     }
 
     fn mark(&self, rule: usize, place: usize) -> Option<Mark> {
         let before = self.first.rules();
         if rule <= before {
-            self.first.mark(rule, place)
-        } else {
-            self.second.mark(rule - before, place)
+            return self.first.mark(rule, place);
         }
+        if may_join(&self.first, &self.second) {
+            return self.second.mark(rule - before, place);
+        }
+        None
     }
+}
+
+// Whether two books may be joined.
+fn may_join<F: Book, S: Book>(first: &F, second: &S) -> bool
+    ensures { result ≡ joinable (F.meaning first.now) (S.meaning second.now) }
+{
+    first.n() == second.n() && first.rules() + second.rules() <= MOST_RULES
 }

@@ -1,7 +1,6 @@
 -- Rules over n parts by their numbers from 1, some of which may be missing.
-use Rattle.std.specs.Prelude.{ℕ, ◌≤◌, Bool, true, IsTrue, List, map, length, Some, None, Option, slice_index_or}
+use Rattle.std.specs.Prelude.{ℕ, Bool, true, IsTrue, List, map, length, Some, None, Option, slice_index_or}
 use Rattle.std.specs.Option.{option_flatten, option_map, option_and_then}
-use Rattle.parts.specs.declared.limits.TheConstants.{MOST_PARTS}
 use Rattle.parts.specs.declared.mark.Mark.{Mark}
 use Rattle.parts.specs.Distinct.{is_distinct}
 use Rattle.parts.specs.Lists.{at_place}
@@ -20,7 +19,6 @@ sound_if_there n (Some r) = is_distinct n r
 
 -- what every list of rules keeps
 pub record SoundList (l : Listed) : Type 0 where
-  pub few : l.n ≤ MOST_PARTS
   pub sound : (i : ℕ) → IsTrue (sound_if_there l.n (slice_index_or l.rules i None))
 
 -- a rule by its number, how many marks it has, and one of them by its place;

@@ -21,7 +21,7 @@ book_rules n (r ∷ rs) zero s = grind (arith, rule_distinct n r)
 book_rules n (r ∷ rs) (suc i) s = grind (arith, book_rules n rs i)
 
 pub book_list_sound : (b : RuleBook) → books.Sound b → SoundList (book_list b)
-book_list_sound b s = record { few = s.few; sound = λ i. book_rules b.n b.rules i s.rules_sound }
+book_list_sound b s = record { sound = λ i. book_rules b.n b.rules i s.rules_sound }
 
 -- the marks of a row from a part on name no part below it
 none_below : (p q : ℕ) (cs : List ℕ) → q < p → names (marks_from p cs) q ≡ false
@@ -42,4 +42,4 @@ lessons n (Some r ∷ rows) zero s = grind (arith, nat_tests, row_distinct n 1 r
 lessons n (o ∷ rows) (suc i) s = grind (arith, lessons n rows i)
 
 pub shelf_list_sound : (s : Shelved) → shelves.Sound s → SoundList (shelf_list s)
-shelf_list_sound s k = record { few = k.few; sound = λ i. lessons s.n s.rows i k.rows_sound }
+shelf_list_sound s k = record { sound = λ i. lessons s.n s.rows i k.rows_sound }

@@ -18,7 +18,7 @@ pub trait RuleList {
     // the list of rules that it stands for
     ghost listed: { Self → Listed };
 
-    // at most 120 parts, and each rule that is there is over these parts and names none twice
+    // each rule that is there is over these parts and names none twice
     ghost sound: { (l : Self) → SoundList (listed l) };
 
     /// How many parts the rules are over.

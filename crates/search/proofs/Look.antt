@@ -19,7 +19,7 @@ use Rattle.search.specs.declared.entry.Kind.{Kind}
 use Rattle.search.specs.declared.entry.Kind.TheVariants.{Forced}
 use Rattle.search.specs.declared.reason.Reason.{Reason}
 use Rattle.search.specs.declared.reason.Reason.TheVariants.{Book, Shelf}
-use Rattle.search.specs.Trail.{Trail, settled, row, reason_in, reason_of, truth, says_false, says_open, State, broken, pressing, quiet, enter}
+use Rattle.search.specs.Trail.{Trail, settled, row, reason_in, reason_of, truth, is_crossed, says_open, State, broken, pressing, quiet, enter}
 use Rattle.search.specs.Machine.{Bench, Places, Machine, rule_at, state_of, reasons, is_broken, is_pressing, press_by, worked}
 use Rattle.search.specs.Machine.{Move, turn_on, force, settle, fit, ask, choose, look, turn}
 use Rattle.search.specs.Law.{NoMarkLost}
@@ -163,15 +163,12 @@ module _ (b : Bench) (m : Machine) where
     abbrev all : List Reason
     all = reasons b.book.rules m.shelf.rows
 
-    abbrev is_crossed : Mark → Bool
-    is_crossed h = says_false (truth (row n t) h)
-
     abbrev is_vacant : Mark → Bool
     is_vacant h = says_open (truth (row n t) h)
 
     -- where no hold is crossed or open, each is kept
-    keeps : find is_crossed hs ≡ None → find is_vacant hs ≡ None → Kept hs t
-    keeps ec eh h i = grind (arith, find_none is_crossed hs ec h i, find_none is_vacant hs eh h i, distinct_member n hs h dis i, truth_shows n t h)
+    keeps : find (is_crossed (row n t) t) hs ≡ None → find is_vacant hs ≡ None → Kept hs t
+    keeps ec eh h i = grind (arith, find_none (is_crossed (row n t) t) hs ec h i, crossed_reason n Ob hs at_of dis t sound h i, find_none is_vacant hs eh h i, distinct_member n hs h dis i, truth_shows n t h)
 
     -- where all is settled and no rule is broken or pressing, each rule of the book is met
     met : find (λ r. is_broken (st r)) all ≡ None → find (λ r. is_pressing (st r)) all ≡ None → is_full (row n t) ≡ true → Met
@@ -224,13 +221,13 @@ module _ (b : Bench) (m : Machine) where
 
     -- the first of six that applies
     choose_ok : (a p : Option Reason) (c h : Option Mark) (v : Bool)
-        → find (λ r. is_broken (st r)) all ≡ a → find (λ r. is_pressing (st r)) all ≡ p → find is_crossed hs ≡ c → find is_vacant hs ≡ h
+        → find (λ r. is_broken (st r)) all ≡ a → find (λ r. is_pressing (st r)) all ≡ p → find (is_crossed (row n t) t) hs ≡ c → find is_vacant hs ≡ h
         → is_full (row n t) ≡ v
         → Looked (choose a (option_and_then (λ r. press_by r (st r)) p) (option_and_then (λ h. reason_of t h.part) c) h v)
     choose_ok (Some r) p c h v ea ep ec eh ev = let (i, k) = find_some (λ r. is_broken (st r)) all r ea in on_broken r (grind arith)
     choose_ok None (Some r) c h v ea ep ec eh ev = on_pressing r (st r) refl (find_some (λ r. is_pressing (st r)) all r ep).1 _ h v
     choose_ok None None (Some g) h v ea ep ec eh ev =
-        let (i, k) = find_some is_crossed hs g ec in
+        let (i, k) = find_some (is_crossed (row n t) t) hs g ec in
         on_false g i (grind (arith, truth_shows n t g, distinct_member n hs g dis i)) (reason_of t g.part) refl h v
     choose_ok None None None (Some h) v ea ep ec eh ev =
         let (i, k) = find_some is_vacant hs h eh in

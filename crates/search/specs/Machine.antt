@@ -18,7 +18,7 @@ use Rattle.search.specs.declared.reason.Reason.{Reason}
 use Rattle.search.specs.declared.reason.Reason.TheVariants.{Book, Shelf}
 use Rattle.search.specs.declared.report.Answer.{Answer}
 use Rattle.search.specs.declared.report.Answer.TheVariants.{Fits, NoneFits}
-use Rattle.search.specs.Trail.{Trail, row, reason_of, truth, says_false, says_open, State, broken, pressing, quiet, state, enter, leave}
+use Rattle.search.specs.Trail.{Trail, row, reason_of_crossed, truth, says_open, State, broken, pressing, quiet, state, enter, leave}
 
 -- What a session is opened with and keeps: what the book means, and the forgetting rule.
 pub record Bench : Type 0 where
@@ -113,7 +113,7 @@ look b m =
     choose
     (find (λ r. is_broken (at r)) all)
     (option_and_then (λ r. press_by r (at r)) (find (λ r. is_pressing (at r)) all))
-    (option_and_then (λ h. reason_of m.trail h.part) (find (λ h. says_false (truth now h)) m.holds))
+    (reason_of_crossed now m.trail m.holds)
     (find (λ h. says_open (truth now h)) m.holds)
     (is_full now)
 

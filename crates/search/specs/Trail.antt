@@ -1,5 +1,5 @@
 -- The trail, the settled row, and how marks and rules stand under it.
-use Rattle.std.specs.Prelude.{ℕ, ◌-◌, Bool, true, false, if◌then◌else◌, List, [], ◌∷◌, map, Some, None, Option, ◌==◌, slice_index, slice_set}
+use Rattle.std.specs.Prelude.{ℕ, ◌-◌, Bool, true, false, if◌then◌else◌, ◌&&◌, List, [], ◌∷◌, map, Some, None, Option, ◌==◌, is_some, slice_index, slice_set}
 use Rattle.std.specs.List.{find, range_with_len}
 use Rattle.std.specs.Option.{option_and_then, option_map}
 use Rattle.parts.specs.Codes.{code_of}
@@ -57,6 +57,14 @@ abbrev pub says_false : Truth → Bool
 says_false is_true = false
 says_false is_false = true
 says_false is_open = false
+
+-- a hold that is settled on the other side for a reason, and the reason of the earliest one
+abbrev pub is_crossed : Row → Trail → Mark → Bool
+is_crossed now t h = says_false (truth now h) && is_some (reason_of t h.part)
+
+abbrev pub reason_of_crossed : Row → Trail → List Mark → Option Reason
+reason_of_crossed now t hs =
+    option_and_then (λ h. reason_of t h.part) (find (is_crossed now t) hs)
 
 abbrev pub says_open : Truth → Bool
 says_open is_true = false

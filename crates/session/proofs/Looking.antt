@@ -17,7 +17,7 @@ use Rattle.rules.specs.Proved.{book_list_sound, shelf_list_sound}
 use Rattle.rules.specs.Listing.{sound_if_there, book_list, shelf_list}
 use Rattle.search.specs.declared.reason.Reason.{Reason}
 use Rattle.search.specs.declared.reason.Reason.TheVariants.{Book, Shelf}
-use Rattle.search.specs.Trail.{Trail, State, row, pressing, truth, says_false, says_open, reason_of}
+use Rattle.search.specs.Trail.{Trail, State, row, pressing, truth, says_open, reason_of_crossed}
 use Rattle.search.specs.Machine.{Bench, Machine, Press, choose, is_broken, is_pressing, look, press_by, reasons, rule_at, state_of}
 use Rattle.search.proofs.States.{truth_shows, state_says}
 use Rattle.scan.specs.Scanning.{first_in, broken_in}
@@ -149,10 +149,10 @@ module _ (b : Bench) (m : Machine) (n : ℕ) (same : n ≡ b.book.n) where
       rw (press_first at, both, ← length-map b.book.rules Some, on_book, ← length-map m.shelf.rows (option_map row_marks), on_lessons) refl
 
   pub looks : look b m ≡ choose (option_or (option_map Book (broken_in book_found)) (option_map Shelf (broken_in shelf_found))) (option_or (pressed_by Book book_found) (pressed_by Shelf shelf_found))
-      (option_and_then (λ h. reason_of m.trail h.part) (find (λ h. says_false (truth r h)) m.holds)) (find (λ h. says_open (truth r h)) m.holds) (is_full r)
+      (reason_of_crossed r m.trail m.holds) (find (λ h. says_open (truth r h)) m.holds) (is_full r)
   unfolding look
   looks = rw (← same) (same_choice _ _ _ _ _ _ _ broken_of (λ none. press_of (grind arith) (grind arith)))
 
   -- where no rule is broken or pressing
-  pub looks_quiet : Quiet ≡ book_found → Quiet ≡ shelf_found → look b m ≡ choose None None (option_and_then (λ h. reason_of m.trail h.part) (find (λ h. says_false (truth r h)) m.holds)) (find (λ h. says_open (truth r h)) m.holds) (is_full r)
+  pub looks_quiet : Quiet ≡ book_found → Quiet ≡ shelf_found → look b m ≡ choose None None (reason_of_crossed r m.trail m.holds) (find (λ h. says_open (truth r h)) m.holds) (is_full r)
   looks_quiet e f = rw (← e, ← f) at looks

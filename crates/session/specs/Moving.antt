@@ -1,10 +1,9 @@
 -- A step's move as the search has it, and what is open before it.
 use Rattle.std.specs.Prelude.{List, None, IsTrue}
 use Rattle.std.specs.List.{find}
-use Rattle.std.specs.Option.{option_and_then}
 use Rattle.parts.specs.declared.mark.Mark.{Mark}
 use Rattle.parts.specs.Rows.{Row, is_full}
-use Rattle.search.specs.Trail.{row, reason_of, truth, says_false, says_open}
+use Rattle.search.specs.Trail.{row, reason_of_crossed, truth, says_open}
 use Rattle.search.specs.Machine as machine
 use Rattle.search.specs.Machine.{choose}
 use Rattle.trail.specs.Settling.{Settling, can_settle}
@@ -31,6 +30,6 @@ abbrev pub move_by_holds : Settling → List Mark → machine.Move
 move_by_holds t hs =
     let now : Row = row t.n t.entries in
     choose None None
-    (option_and_then (λ h. reason_of t.entries h.part) (find (λ h. says_false (truth now h)) hs))
+    (reason_of_crossed now t.entries hs)
     (find (λ h. says_open (truth now h)) hs)
     (is_full now)

@@ -12,7 +12,6 @@ mod table;
 #[cfg(test)]
 mod tests;
 
-pub use entry::Entry;
 pub use grid::GridShelf;
 pub use list::ListShelf;
 use parts::{Mark, Refusal, Side};

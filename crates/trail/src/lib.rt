@@ -3,8 +3,7 @@
 
 ghost use Rattle.std.specs.Prelude.{◌≡◌, ◌-◌, ◌≤◌, min, [], ◌∷◌, if◌then◌else◌, slice_index, IsTrue, IfSome};
 ghost use Rattle.std.specs.List.{find};
-ghost use Rattle.std.specs.Option.{option_and_then};
-ghost use Rattle.search.specs.Trail.{row as row_of, settled, reason_of, truth, says_false, says_open};
+ghost use Rattle.search.specs.Trail.{row as row_of, settled, reason_of, truth, is_crossed, reason_of_crossed, says_false, says_open};
 ghost use Rattle.search.specs.Machine.{needed as is_needed};
 ghost use Rattle.trail.specs.Settling.{can_settle, newest, older};
 
@@ -144,20 +143,27 @@ impl Trail {
             .and_then(|entry| entry.kind.reason())
     }
 
-    /// The reason of the earliest of the holds that is settled on the other side.
+    /// The reason of the earliest of the holds that is settled on the other side for a reason.
     pub fn crossed(&self, holds: &[Mark]) -> Option<Reason>
-        ensures { result ≡ option_and_then (λ h. reason_of self.now.entries h.part)
-            (find (λ h. says_false (truth (row_of self.now.n self.now.entries) h)) holds.now) }
+        ensures { result ≡ reason_of_crossed (row_of self.now.n self.now.entries)
+            self.now.entries holds.now }
     {
-        self.reason_of(self.first_false(holds)?.part)
+        self.reason_of(self.first_crossed(holds)?.part)
     }
 
-    // The first of the marks that is false.
-    fn first_false(&self, marks: &[Mark]) -> Option<Mark>
-        ensures { result
-            ≡ find (λ m. says_false (truth (row_of self.now.n self.now.entries) m)) marks.now }
+    // The first of the marks that is false for a reason.
+    fn first_crossed(&self, marks: &[Mark]) -> Option<Mark>
+        ensures { result ≡ find (is_crossed (row_of self.now.n self.now.entries)
+            self.now.entries) marks.now }
     {
-        marks.iter().copied().find(|mark| self.is_false(*mark))
+        marks.iter().copied().find(|mark| self.is_crossed(*mark))
+    }
+
+    // Whether a mark is false for a reason.
+    fn is_crossed(&self, mark: Mark) -> bool
+        ensures { result ≡ is_crossed (row_of self.now.n self.now.entries) self.now.entries mark }
+    {
+        self.is_false(mark) && self.reason_of(mark.part).is_some()
     }
 
     // Whether a mark is false.

@@ -64,7 +64,7 @@ fn run(rt: &HostRuntime) -> anyhow::Result<()> {
 fn parse_case(heap: Global, line: &str) -> anyhow::Result<Case> {
     let mut fields = line.split('\t');
     let _name = fields.next().context("no name")?;
-    let text = hex::decode(heap, fields.next().context("no text")?)?;
+    let text = unhex(heap, fields.next().context("no text")?)?;
     let marks = number(fields.next(), "no marks")?;
     let ends = number(fields.next(), "no ends")?;
     let verdict = fields.next().context("no verdict")?;
@@ -83,7 +83,7 @@ fn parse_case(heap: Global, line: &str) -> anyhow::Result<Case> {
             let fault = NumberedFault {
                 number: u8::try_from(first)?,
                 byte: second,
-                rule: number(last, "no rule")?,
+                rule: last.unwrap_or("").parse::<usize>()?,
             };
             (Err(fault), "")
         }
@@ -95,6 +95,19 @@ fn parse_case(heap: Global, line: &str) -> anyhow::Result<Case> {
         reply,
         rules: numbers(heap, rules)?,
     })
+}
+
+// The bytes that hexadecimal digits write. A last digit that is alone has to be one, and writes none.
+fn unhex(heap: Global, digits: &str) -> anyhow::Result<Vec<u8>> {
+    let padded = format!(in heap; "{digits}0")?;
+    let even = if digits.len() % 2 == 0 {
+        digits
+    } else {
+        padded.as_str()
+    };
+    let mut bytes = hex::decode(heap, even).ok().context("no digit")?;
+    bytes.truncate(digits.len() / 2);
+    Ok(bytes)
 }
 
 // The number in a field, which must be there.
@@ -125,9 +138,9 @@ fn holds(marks: &[i16], ends: &[u16], rules: &[i16]) -> bool {
     let mut ends_left = ends;
     for number in rules {
         let agrees = if *number == 0 {
-            ends_left
-                .split_off_first()
-                .is_some_and(|end| usize::from(*end) + marks_left.len() == marks.len())
+            // An end too many agrees where no end could be as large, as ever.
+            ends_left.split_off_first().copied()
+                == u16::try_from(marks.len() - marks_left.len()).ok()
         } else {
             marks_left.split_off_first() == Some(number)
         };
