@@ -1,6 +1,6 @@
 // Comparing what a session replies with what is expected.
-use crate::history::{History, Lesson};
-use std::fmt::Debug;
+use crate::history::{Answer, Counts, History, Lesson, Reply, Unanswered};
+use parts::Refusal;
 use std::io;
 use std::ops::AddAssign;
 
@@ -33,6 +33,70 @@ impl Tally {
     }
 }
 
+// A reply as it is printed.
+#[derive(Clone, Copy, Debug)]
+pub enum Shown<'a> {
+    Done,
+    Refused(u8),
+    // and yet the row was changed
+    Spoiled(u8),
+    Ran(Standing),
+    Codes(&'a [u8]),
+    // an empty place
+    Empty,
+}
+
+// Verdict, or "spent" while none stands, steps and turns, as they are printed.
+#[derive(Clone, Copy, Debug)]
+pub struct Standing {
+    pub verdict: search::Answer,
+    pub steps: usize,
+    pub turns: usize,
+}
+
+// What is compared, and how it is printed.
+pub trait Compared: PartialEq {
+    fn shown(&self) -> Shown<'_>;
+}
+
+impl Compared for Reply {
+    fn shown(&self) -> Shown<'_> {
+        match self {
+            Ok(Answer::Done) => Shown::Done,
+            Ok(Answer::Ran(report)) => Shown::Ran(Standing {
+                verdict: report.answer,
+                steps: report.steps,
+                turns: report.turns,
+            }),
+            Ok(Answer::Codes(codes)) => Shown::Codes(codes),
+            Ok(Answer::Empty) => Shown::Empty,
+            Err(Unanswered::Refused(number)) => Shown::Refused(*number),
+            Err(Unanswered::Spoiled(number)) => Shown::Spoiled(*number),
+        }
+    }
+}
+
+impl Compared for Counts {
+    fn shown(&self) -> Shown<'_> {
+        Shown::Ran(Standing {
+            verdict: self.0.unwrap_or(search::Answer::Spent),
+            steps: self.1,
+            turns: self.2,
+        })
+    }
+}
+
+// What is found at a place.
+impl Compared for Result<&Lesson, &Refusal> {
+    fn shown(&self) -> Shown<'_> {
+        match self {
+            Ok(Some(row)) => Shown::Codes(row),
+            Ok(None) => Shown::Empty,
+            Err(refusal) => Shown::Refused(u8::from(**refusal)),
+        }
+    }
+}
+
 // A history, the make of shelf that it is replayed on, and how far they agree.
 #[derive(Clone, Copy)]
 pub struct Trial<'a> {
@@ -54,7 +118,7 @@ impl<'a> Trial<'a> {
     }
 
     // Prints and counts a reply that is not the expected one.
-    pub fn compare<T: PartialEq + Debug>(
+    pub fn compare<T: Compared>(
         &mut self,
         what: &str,
         number: usize,
@@ -67,6 +131,7 @@ impl<'a> Trial<'a> {
         self.tally.wrong = self.tally.wrong.saturating_add(1);
         let name = self.history.name.as_str();
         let make = self.make;
+        let (expected, reply) = (expected.shown(), reply.shown());
         println!(self.rt; "{name} {make} {what} {number}: expected {expected:?}, replied {reply:?}")
     }
 }

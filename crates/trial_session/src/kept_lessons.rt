@@ -23,7 +23,7 @@ pub fn compare_codes<F: Fn(usize, usize) -> Result<Option<u8>, Refusal>>(
     })?;
     let past = opening.places.saturating_add(1);
     let found = lesson_by_codes(heap, opening.parts, |part| code(past, part))?;
-    trial.compare(what, past, &Err(Refusal::ShelfOutOfRange), &found)?;
+    trial.compare(what, past, &Err(&Refusal::ShelfOutOfRange), &found.as_ref())?;
     Ok(())
 }
 

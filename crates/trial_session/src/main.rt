@@ -28,13 +28,17 @@ fn run(rt: &HostRuntime) -> anyhow::Result<()> {
 // Replays every history of a packed file, whose first line counts them.
 fn try_file(rt: &HostRuntime, file: &str) -> anyhow::Result<()> {
     let packed = fs::read_to_string(rt, file)?;
-    let (counted, lines) = packed.split_once('\n').context("no count of histories")?;
-    let counted = counted.parse::<usize>()?;
+    let mut lines = packed.lines();
+    let counted = lines
+        .next()
+        .context("no count of histories")?
+        .parse::<usize>()?;
     let mut tally = Tally::default();
-    for (number, line) in (2..).zip(lines.lines()) {
-        tally += try_line(rt, number, line)?;
+    let mut histories = 0usize;
+    for line in lines {
+        histories = histories.saturating_add(1);
+        tally += try_line(rt, histories.saturating_add(1), line)?;
     }
-    let histories = lines.lines().count();
     ensure!(histories == counted, "not as many histories as counted");
     let Tally {
         calls,

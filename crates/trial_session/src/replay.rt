@@ -52,7 +52,7 @@ fn replay_calls<B: Book, P: Picker, S: Shelf>(
         trial.compare("call", number, &exchange.reply, &reply)?;
         counts = counts_after(counts, &exchange.reply);
         let found = (session.verdict(), session.steps(), session.turns());
-        trial.compare("counts after call", number, &counts, &found)?;
+        trial.compare("report after call", number, &counts, &found)?;
     }
     trial.tally.calls = history.calls.len();
     Ok(())

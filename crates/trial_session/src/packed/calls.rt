@@ -1,6 +1,5 @@
 // Calls with their replies, and lessons.
 use crate::history::{Answer, Call, Exchange, Lesson, Reply, Unanswered};
-use crate::kept_lessons::code_of;
 use crate::packed::{name_and_numbers, parse_each};
 use anyhow::{Context, bail, ensure};
 use parts::Mark;
@@ -52,7 +51,9 @@ fn parse_reply(heap: Global, text: &str) -> anyhow::Result<Reply> {
         ("ok", []) => Ok(Answer::Done),
         ("empty", []) => Ok(Answer::Empty),
         ("row", codes) => Ok(Answer::Codes(codes_of(heap, codes)?)),
-        ("refused", [number]) => Err(Unanswered::Refused(u8::try_from(*number)?)),
+        ("refused", [number]) => Err(Unanswered::Refused(
+            u8::try_from(*number).ok().context("no reply")?,
+        )),
         (answer, [steps, turns]) => Ok(Answer::Ran(Report {
             answer: answer_by(answer)?,
             steps: *steps,
@@ -96,7 +97,8 @@ fn parse_lesson(heap: Global, parts: usize, text: &str) -> anyhow::Result<Lesson
     let mut row = vec![in heap; 0u8; parts]?;
     for word in text.split_whitespace() {
         let mark = Mark::from(word.parse::<i16>()?);
-        let code = code_of(&mut row, mark.part).context("no part of the row")?;
+        let before = mark.part.checked_sub(1).context("a mark 0")?;
+        let code = row.get_mut(before).context("a part above n")?;
         ensure!(*code == 0, "a part twice");
         *code = u8::from(mark.side);
     }
