@@ -99,13 +99,11 @@ fn parse_case(heap: Global, line: &str) -> anyhow::Result<Case> {
 
 // The bytes that hexadecimal digits write. A last digit that is alone has to be one, and writes none.
 fn unhex(heap: Global, digits: &str) -> anyhow::Result<Vec<u8>> {
+    if digits.len() % 2 == 0 {
+        return hex::decode(heap, digits).ok().context("no digit");
+    }
     let padded = format!(in heap; "{digits}0")?;
-    let even = if digits.len() % 2 == 0 {
-        digits
-    } else {
-        padded.as_str()
-    };
-    let mut bytes = hex::decode(heap, even).ok().context("no digit")?;
+    let mut bytes = hex::decode(heap, padded.as_str()).ok().context("no digit")?;
     bytes.truncate(digits.len() / 2);
     Ok(bytes)
 }
