@@ -138,7 +138,7 @@ fn holds(marks: &[i16], ends: &[u16], rules: &[i16]) -> bool {
         let agrees = if *number == 0 {
             // An end too many agrees where no end could be as large, as ever.
             ends_left.split_off_first().copied()
-                == u16::try_from(marks.len() - marks_left.len()).ok()
+                == u16::try_from(marks.len().saturating_sub(marks_left.len())).ok()
         } else {
             marks_left.split_off_first() == Some(number)
         };
